@@ -1,0 +1,9 @@
+pub mod Blocks
+pub mod Errors
+pub mod LexLaws
+pub mod Numbers
+pub mod Shaders
+pub mod Stages
+pub mod Texts
+pub mod Tokens
+pub mod Words
