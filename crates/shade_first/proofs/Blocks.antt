@@ -16,10 +16,10 @@ abbrev first_byte : Kind → ℕ
 first_byte (kind.Word w) = get_or w 0 0
 first_byte _ = 0
 
-words_differ : if_word ≡ barrier_word → ⊥
+pub words_differ : if_word ≡ barrier_word → ⊥
 words_differ e = let bytes : ◌≡◌ {A = ℕ} 105 119 = ap first_byte e in omega (arith, bytes)
 
-mark_no_word : (w : List ℕ) → kind.Mark CloseBrace ≡ kind.Word w → ⊥
+pub mark_no_word : (w : List ℕ) → kind.Mark CloseBrace ≡ kind.Word w → ⊥
 mark_no_word w e = cc
 
 module _ (tokens : List Token) (at : ℕ) where

@@ -35,12 +35,12 @@ pub placed_fails : (tokens : List Token) (from : ℕ) (k : Kind) → from ≤ le
 placed_fails tokens from k h isnt = single_fails (Placed k) tokens from h (placed_closes k) (λ p ys w g near. isnt p (near_get tokens from (token_of k p) w (subst (λ x. Near x (drop from tokens)) g.is near)))
 
 -- one token is another
-record SameToken (k j : Kind) (p q : Place) (ys w : List Token) : Type 0 where
-  kinds : k ≡ j
-  places : p ≡ q
-  rests : ys ≡ w
+pub record SameToken (k j : Kind) (p q : Place) (ys w : List Token) : Type 0 where
+  pub kinds : k ≡ j
+  pub places : p ≡ q
+  pub rests : ys ≡ w
 
-same_token : (k j : Kind) (p q : Place) (ys w : List Token) → token_of k p ∷ ys ≡ token_of j q ∷ w → SameToken k j p q ys w
+pub same_token : (k j : Kind) (p q : Place) (ys w : List Token) → token_of k p ∷ ys ≡ token_of j q ∷ w → SameToken k j p q ys w
 same_token k j p q ys w e =
     let t : token_of k p ≡ token_of j q = cc in
     record { kinds = ap (λ (x : Token). x.kind) t; places = ap (λ (x : Token). x.place) t; rests = (cc) }

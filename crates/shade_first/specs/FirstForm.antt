@@ -1,10 +1,12 @@
 -- Texts of the first form, and where a text leaves it.
 use Rattle.std.specs.Prelude.{◌≡◌, ℕ, ◌+◌, ◌<◌, ◌≤◌, Some, List, [], ◌++◌, length, take, slice_get}
+use Rattle.shade_core.specs.declared.module.CoreModule.{CoreModule}
 use Rattle.shade_first.specs.declared.token.Token.{Token}
 use Rattle.shade_first.specs.declared.tree.FirstShader.{FirstShader}
 use Rattle.shade_first.specs.declared.FirstFault.{FirstFault}
 use Rattle.shade_first.specs.declared.FirstFault.TheVariants.{NotYet, NoMemory}
 use Rattle.shade_first.specs.Form.{Shader}
+use Rattle.shade_first.specs.Lowering.{Stands}
 use Rattle.shade_first.specs.Tokens.{Lexes}
 
 -- a text of the first form, and its tree: at most 4,096 bytes, all of them in tokens that spell the tree or between them
@@ -13,6 +15,12 @@ pub record Spells (text : List ℕ) (s : FirstShader) : Type 0 where
   pub tokens : List Token
   pub lexed : Lexes text 0 tokens (length text)
   pub spelled : Shader s tokens []
+
+-- a text of the first form, and the core module that its tree stands for
+pub record StandsFor (text : List ℕ) (m : CoreModule) : Type 0 where
+  pub shader : FirstShader
+  pub spells : Spells text shader
+  pub stands : Stands shader m
 
 -- some shader begins with these tokens
 abbrev pub Begins : List Token → Type 0

@@ -3,9 +3,11 @@
 #![tactic(auto)]
 
 ghost use Rattle.std.specs.Prelude.{◌≡◌, MatchOption, MatchResult, slice_get};
-ghost use Rattle.shade_first.specs.FirstForm.{Spells, Refuses};
+ghost use Rattle.shade_first.specs.FirstForm.{Spells, StandsFor, Refuses};
 
+mod laws;
 mod lex;
+mod lower;
 mod number;
 mod parse;
 mod phrase;
@@ -15,11 +17,14 @@ mod token;
 mod tree;
 
 use crate::lex::{Lexed, lex};
+use crate::lower::lower;
 use crate::parse::shader;
 use crate::phrase::SyntaxFault;
 use crate::token::Token;
+use crate::tree::FirstShader;
+pub use laws::{few_statements, never_both, one_module, one_place};
+use shade_core::CoreModule;
 use std::alloc::Global;
-pub use tree::{FirstItem, FirstShader};
 
 const MOST_BYTES: usize = 4096;
 
@@ -30,8 +35,20 @@ pub enum FirstFault {
     NoMemory,
 }
 
-/// Reads the tree of a text of the first form.
-pub fn first_tree(alloc: Global, text: &[u8]) -> Result<FirstShader, FirstFault>
+/// Reads a text of the first form, and gives the core module that it stands for. NotYet comes exactly where a text is not of
+/// the form. Takes memory for its tokens, its tree and the module.
+pub fn first_form(alloc: Global, text: &[u8]) -> Result<CoreModule, FirstFault>
+    ensures { MatchResult result (λ m. StandsFor text.now m) (λ f. Refuses text.now f) }
+{
+    let shader = first_tree(alloc, text)?;
+    match lower(alloc, shader) {
+        Ok(module) => Ok(module),
+        Err(_) => Err(FirstFault::NoMemory),
+    }
+}
+
+// Reads the tree of a text of the first form.
+fn first_tree(alloc: Global, text: &[u8]) -> Result<FirstShader, FirstFault>
     ensures { MatchResult result (λ s. Spells text.now s) (λ f. Refuses text.now f) }
 {
     if text.len() > MOST_BYTES {
