@@ -1,5 +1,5 @@
 -- Edges of a list, by their places.
-use Rattle.std.proofs.Common.{◌≡◌, ℕ, zero, suc, ◌+◌, ◌<◌, ◌≤◌, List, [], ◌∷◌, length, map, get_or, refl, ap, sym, ◌∙◌, arith, subst}
+use Rattle.std.proofs.Common.{◌≡◌, ℕ, zero, suc, ◌<◌, List, [], ◌∷◌, length, map, get_or, refl, ap, sym, ◌∙◌, arith, subst}
 use Rattle.std.proofs.lemmas.List.{get_or_default, length-map}
 use Rattle.shade_reach.specs.Digraph.{HasEdge, SameEdges, JoinsNodes}
 use Rattle.shade_reach.specs.Rows.{source_at, target_at, AreTurned}
@@ -63,3 +63,10 @@ turned_same old new forward backward t f b = record {
   turned = λ from to h. (b to from).0 (t.turned from to ((f from to).1 h));
   back = λ from to h. (f from to).0 (t.back from to ((b to from).1 h));
 }
+
+-- edges join nodes where each of them does
+pub joined_all : (nodes : ℕ) (edges : List (ℕ × ℕ)) → ((k : ℕ) → k < length edges → (source_at edges k < nodes) × (target_at edges k < nodes)) → JoinsNodes nodes edges
+joined_all nodes edges all from to h =
+    let s : (k : ℕ) × StandsAt edges from to k = has_at edges from to h in
+    let ends : (source_at edges s.0 < nodes) × (target_at edges s.0 < nodes) = all s.0 s.1.within in
+    (omega (arith, ends.0, s.1.source), omega (arith, ends.1, s.1.target))

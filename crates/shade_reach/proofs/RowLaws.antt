@@ -1,10 +1,10 @@
 -- Rows hold the edges that they were made of, and a row is the targets of its node.
-use Rattle.std.proofs.Common.{◌≡◌, ℕ, zero, suc, ◌+◌, ◌-◌, ◌<◌, ◌≤◌, List, [], ◌∷◌, length, map, get_or, take, drop, refl, ap, sym, ◌∙◌, arith, subst, inl, inr, Bool, true, false}
-use Rattle.std.specs.Prelude.{nat_le, ◌⊎◌, Contains, All, if◌then◌else◌}
+use Rattle.std.proofs.Common.{◌≡◌, ℕ, zero, suc, ◌+◌, ◌-◌, ◌<◌, ◌≤◌, List, [], ◌∷◌, length, map, get_or, take, drop, refl, ap, sym, ◌∙◌, arith, subst, inl, inr}
+use Rattle.std.specs.Prelude.{Contains, All}
 use Rattle.std.specs.List.Sorted.{IsStrictlyIncreasing}
 use Rattle.std.proofs.lemmas.List.{get_or_default, get_or_read, get_or-take, get_or-drop, length-take-le, length-drop, ext_get_or, length-map}
-use Rattle.std.proofs.lemmas.Bool.Decides.{leb_tells, eqb_tells}
-use Rattle.shade_reach.specs.Digraph.{HasEdge, IsTargets, JoinsNodes, SameEdges}
+use Rattle.std.proofs.lemmas.Bool.Decides.{leb_tells}
+use Rattle.shade_reach.specs.Digraph.{HasEdge, IsTargets, JoinsNodes}
 use Rattle.shade_reach.specs.Rows.{source_at, target_at, IsAscending, IsRowStart, AreRowStarts, IsRows, started, edges_from, edges_of}
 use Rattle.shade_reach.proofs.Edges.{StandsAt, has_at, at_has, at_has_as}
 

@@ -1,12 +1,12 @@
 -- A breadth-first search: what marking a node keeps, and what it knows at its end.
-use Rattle.std.proofs.Common.{◌≡◌, ℕ, zero, suc, ◌+◌, ◌<◌, ◌≤◌, List, [], ◌∷◌, ◌++◌, length, replicate, get_or, Option, None, Some, refl, ap, sym, ◌∙◌, arith, subst, inl, inr, length-append}
-use Rattle.std.specs.Prelude.{slice_get, slice_set, ◌≢◌, ◌⊎◌, ◌↔◌, Contains}
-use Rattle.std.proofs.lemmas.Bool.Decides.{eqb_tells, leb_tells}
+use Rattle.std.proofs.Common.{◌≡◌, ℕ, zero, suc, ◌+◌, ◌<◌, ◌≤◌, List, [], ◌∷◌, ◌++◌, length, replicate, Option, None, Some, refl, ap, sym, ◌∙◌, arith, subst, inl, inr, length-append}
+use Rattle.std.specs.Prelude.{slice_get, slice_set, ◌≢◌, ◌⊎◌, Contains}
+use Rattle.std.proofs.lemmas.Bool.Decides.{eqb_tells}
 use Rattle.std.proofs.lemmas.List.{length-replicate, length-set}
-use Rattle.std.proofs.lemmas.Option.{slice_get-get_or, slice_get_within, slice_get_past, get_or_from_slice_get}
+use Rattle.std.proofs.lemmas.Option.{slice_get-get_or, slice_get_within}
 use Rattle.shade_reach.specs.Paths.{Walk, IsDistance, NoPath}
 use Rattle.shade_reach.specs.Digraph.{HasEdge, IsDistances}
-use Rattle.shade_reach.specs.Search.{IsMarked, IsMarkedWithin, unmarked, Marks, IsSearch, AreMarked, AreSources}
+use Rattle.shade_reach.specs.Search.{IsMarked, IsMarkedWithin, unmarked, Marks, IsSearch, AreMarked}
 
 module _ {A : Type 0} where
   pub get-set_same : (xs : List A) (i : ℕ) (x old : A) → slice_get xs i ≡ Some old → slice_get (slice_set xs i x) i ≡ Some x

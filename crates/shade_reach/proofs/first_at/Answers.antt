@@ -1,4 +1,4 @@
-use Rattle.std.proofs.Common.{◌≡◌, ◌<◌, length, arith}
+use Rattle.std.proofs.Common.{◌<◌, length, arith}
 use Rattle.std.proofs.lemmas.Option.{slice_get-get_or}
 use Rattle.shade_reach.proofs.LeastLaws.{first-is, none-more, none-all}
 use Rattle.shade_reach.proofs.first_at.Goals as goal

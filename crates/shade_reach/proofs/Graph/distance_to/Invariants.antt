@@ -1,4 +1,4 @@
-use Rattle.std.proofs.Common.{◌≡◌, ◌+◌, ◌-◌, ◌<◌, length}
+use Rattle.std.proofs.Common.{◌+◌, ◌-◌, length}
 use Rattle.shade_reach.specs.Digraph.{HasEdge}
 use Rattle.shade_reach.specs.Search.{IsSearch, unmarked}
 use Rattle.shade_reach.proofs.SearchLaws.{IsExpanding}

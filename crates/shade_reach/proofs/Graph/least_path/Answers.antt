@@ -1,4 +1,4 @@
-use Rattle.std.proofs.Common.{◌≡◌, ◌+◌, ◌-◌, ◌<◌, ◌∷◌, [], length, Option, Some, None, refl, arith}
+use Rattle.std.proofs.Common.{◌≡◌, ◌+◌, ◌-◌, ◌<◌, ◌∷◌, [], length, refl, arith}
 use Rattle.std.proofs.lemmas.Option.{slice_get_within}
 use Rattle.shade_reach.specs.Digraph.{IsDistances}
 use Rattle.shade_reach.proofs.LeastLaws.{way-begin, way-goes_on, way-step, way-end, itself-is, marked_at, itself-marked}

@@ -1,5 +1,4 @@
-use Rattle.std.proofs.Common.{◌≡◌, ℕ, List, map, sym, ◌∙◌}
-use Rattle.shade_reach.specs.Digraph.{JoinsNodes, SameEdges, HasEdge}
+use Rattle.std.proofs.Common.{◌≡◌, ℕ, List, map}
 use Rattle.shade_reach.specs.Rows.{AreTurned}
 use Rattle.shade_reach.proofs.Edges.{turned-map, turned_joined, turned_same}
 use Rattle.shade_reach.proofs.Graph.new.Goals as goal

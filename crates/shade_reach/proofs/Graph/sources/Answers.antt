@@ -1,5 +1,3 @@
-use Rattle.std.proofs.Common.{◌≡◌, ℕ}
-use Rattle.shade_reach.specs.Search.{AreSources}
 use Rattle.shade_reach.proofs.Graph.sources.Goals as goal
 
 pub returns-clause-sources : goal.returns-clause-sources

@@ -1,5 +1,3 @@
-use Rattle.std.proofs.Common.{◌≡◌}
-use Rattle.std.specs.List.{dedup}
 use Rattle.std.proofs.lemmas.List.Filters.{dedup_is}
 use Rattle.shade_reach.proofs.Ascending.{pair_eq, ascending_from, same_from}
 use Rattle.shade_reach.proofs.rows.ascending.Goals as goal

@@ -1,4 +1,4 @@
-use Rattle.std.proofs.Common.{length, ◌-◌, ◌≡◌, ℕ, ◌+◌, ◌<◌, ◌≤◌}
+use Rattle.std.proofs.Common.{length, ◌-◌, ◌≡◌, ℕ, ◌<◌, ◌≤◌}
 use Rattle.shade_reach.specs.Rows.{source_at}
 use Rattle.shade_reach.proofs.rows.next_row.Given as goal
 

@@ -1,4 +1,4 @@
-use Rattle.std.proofs.Common.{◌≡◌, List, ℕ, map, ◌∙◌, sym}
+use Rattle.std.proofs.Common.{◌≡◌, List, ℕ, map}
 use Rattle.shade_reach.specs.Digraph.{SameEdges, JoinsNodes}
 use Rattle.shade_reach.specs.Rows.{IsRows, edges_of, IsAscending, AreRowStarts}
 use Rattle.shade_reach.proofs.Edges.{same_joined}

@@ -1,6 +1,5 @@
-use Rattle.std.proofs.Common.{◌≡◌, ◌+◌, ◌-◌, arith, length, ◌<◌, ◌≤◌}
-use Rattle.shade_reach.specs.Digraph.{IsTargets}
-use Rattle.shade_reach.proofs.RowLaws.{IsRowAt, row_at}
+use Rattle.std.proofs.Common.{◌-◌, arith, length, ◌<◌}
+use Rattle.shade_reach.proofs.RowLaws.{row_at}
 use Rattle.shade_reach.proofs.rows.Rows.row.Goals as goal
 
 pub prove-unreachable-requires-2 : goal.prove-unreachable-requires-2
