@@ -1,3 +1,4 @@
 pub mod FaultLemmas
 pub mod TextLemmas
 pub mod KnownLemmas
+pub mod PlaceLemmas

@@ -3,3 +3,4 @@ pub mod Shelf
 pub mod Sink
 pub mod MemoryShelf
 pub mod MemorySink
+pub mod Lines

@@ -2,6 +2,7 @@
 //! from and writes to, a shelf of named texts and a sink of bytes, each with a count of its faults.
 #![tactic(auto)]
 
+mod lines;
 mod memory_shelf;
 mod memory_sink;
 mod outside;
@@ -11,6 +12,7 @@ mod shelf;
 mod sink;
 mod status;
 
+pub use lines::{place_after, place_at};
 pub use memory_shelf::MemoryShelf;
 pub use memory_sink::MemorySink;
 pub use outside::{FileShelf, StdSink};

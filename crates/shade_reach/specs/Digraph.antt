@@ -1,5 +1,5 @@
 -- Directed graphs as their callers see them: edges, the targets of a node, distances.
-use Rattle.std.specs.Prelude.{◌≡◌, ℕ, ◌<◌, ◌↔◌, List, All, Contains, length, Option, Some, None, slice_get}
+use Rattle.std.specs.Prelude.{◌≡◌, ℕ, ◌<◌, ◌↔◌, List, Contains, length, Option, Some, None, slice_get}
 use Rattle.std.specs.List.Sorted.{IsStrictlyIncreasing}
 use Rattle.shade_reach.specs.Paths.{IsLeastPath, IsDistance, NoPath}
 
