@@ -1,0 +1,4 @@
+pub mod Paths
+pub mod Digraph
+pub mod Rows
+pub mod Search
