@@ -1,0 +1,19 @@
+//! The core form: what a checked shader is lowered to, and what the analyses and the machine read.
+//!
+//! A module has functions; a function has a body of statements, numbered from 0 in structure order. The definitions
+//! over control stand on `Code` (`specs/Code.antt`), one inductive type that a body is read as.
+#![tactic(auto)]
+
+mod behaviour;
+mod module;
+mod statement;
+
+pub use behaviour::Behaviour;
+pub use module::{
+    BuiltinInput, CoreFunction, CoreModule, CoreParam, CoreParams, Functions, Root, Roots, Site,
+    TypeIds,
+};
+pub use statement::{
+    Act, Argument, Arguments, Base, CoreStatement, Keys, Operand, Operands, Statements, SwitchPart,
+    SwitchParts, View, ViewStep, ViewSteps,
+};

@@ -1,0 +1,8 @@
+//! The uniformity graph of a function: its nodes, and the edges that say what must be uniform where something else must.
+//!
+//! The definitions stand in `specs/`: the nodes and edges in `Graph.antt`, the order of nodes in `Order.antt`.
+#![tactic(auto)]
+
+mod node;
+
+pub use node::{Node, Tag, Via};
