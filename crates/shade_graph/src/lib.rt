@@ -3,6 +3,8 @@
 //! The definitions stand in `specs/`: the nodes and edges in `Graph.antt`, the order of nodes in `Order.antt`.
 #![tactic(auto)]
 
+mod gather;
 mod node;
+mod order;
 
 pub use node::{Node, Tag, Via};
