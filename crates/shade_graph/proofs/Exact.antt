@@ -1,16 +1,16 @@
 -- The nodes and edges that a walk lists are those that stand.
 use Rattle.std.proofs.Common.{◌≡◌, ℕ, List, [], ◌∷◌, ◌++◌, inl, inr, Bool, true, false, refl, sym, subst, Option, Some, None}
-use Rattle.std.specs.Prelude.{◌⊎◌, if◌then◌else◌}
+use Rattle.std.specs.Prelude.{if◌then◌else◌}
 use Rattle.shade_core.specs.declared.statement.Operand.{Operand}
 use Rattle.shade_core.specs.declared.statement.Operand.TheVariants as operand
 use Rattle.shade_core.specs.Code.{Plain, Set, Load, Declare, Store, Atomic, Barrier, UniformLoad, Length, Jump, Break, Continue, Return, Code, done, plain, jump, call, branch, switch, loop, no_part, part}
 use Rattle.shade_core.specs.Behaviour.{branch_behaviour, goes_on}
 use Rattle.shade_graph.specs.declared.node.Node.{Node}
-use Rattle.shade_graph.specs.declared.node.Node.TheVariants.{Required, Param, Returned, Before, After, Part, Value}
+use Rattle.shade_graph.specs.declared.node.Node.TheVariants.{Returned, Before, After, Part, Value}
 use Rattle.shade_graph.specs.declared.gather.GivenEdge.{GivenEdge}
 use Rattle.shade_graph.specs.Graph
 use Rattle.shade_graph.specs.Graph.{Names, names_param, names_temp, Among, here, later, end_of, GivesValue, set_gives, Stands, ActRow, barrier_required, set_before, set_argument, Row}
-use Rattle.shade_graph.specs.Gathered.{given, operand_edges, operands_edges, value_edges, control_nodes, control_edges, plain_nodes, plain_edges, jump_edges, branch_nodes, part_edges, after_edges, branch_edges, nodes_of, edges_of}
+use Rattle.shade_graph.specs.Gathered.{given, operand_edges, operands_edges, value_edges, control_edges, plain_nodes, plain_edges, jump_edges, branch_nodes, part_edges, after_edges, branch_edges, nodes_of, edges_of}
 use Rattle.shade_graph.proofs.Members.{among_left, among_right, among_split, among_if}
 
 -- the nodes that are listed stand

@@ -3,3 +3,6 @@ pub mod OrderLaws
 pub mod WalkLaws
 pub mod Members
 pub mod Exact
+pub mod Numbering
+pub mod GraphLaws
+pub mod ParamLaws

@@ -1,5 +1,5 @@
 -- Nodes in order, each once, and where a node stands among them.
-use Rattle.std.proofs.Common.{◌≡◌, ℕ, ◌+◌, ◌<◌, ◌≤◌, List, length, get_or, refl, ap, sym, ◌∙◌, subst, arith, inl, inr, Bool, true, false, Option, Some, None}
+use Rattle.std.proofs.Common.{◌≡◌, ℕ, ◌+◌, ◌<◌, List, get_or, refl, sym, subst, arith, inl, inr, true, false, Option, Some}
 use Rattle.std.specs.Prelude.{Contains, ◌⊎◌, slice_get, Result, Ok, Err, IfNone}
 use Rattle.std.specs.declared.cmp.Ordering.{Ordering}
 use Rattle.std.specs.declared.cmp.Ordering.TheVariants.{Less, Equal, Greater}
@@ -13,7 +13,7 @@ use Rattle.std.proofs.lemmas.List.Sorted.{Contains-permutation, IsPermutation-sy
 use Rattle.std.proofs.lemmas.Map.Keys.{Less-from_sorted}
 use Rattle.std.proofs.lemmas.Option.{get_or_from_slice_get, slice_get-get_or, slice_get_within}
 use Rattle.shade_graph.specs.declared.node.Node.{Node}
-use Rattle.shade_graph.specs.Order.{rank, first_key, second_key, NodeLess, IsAscending}
+use Rattle.shade_graph.specs.Order.{first_key, second_key, NodeLess, IsAscending}
 use Rattle.shade_graph.proofs.NodeLaws.{node_cmp, node_eq, node_total, node_ties, node_same, node_equiv, less_is}
 
 -- a node does not come before one that comes before it

@@ -1,19 +1,17 @@
 -- What one statement before others adds to what a list has.
-use Rattle.std.proofs.Common.{◌≡◌, ℕ, ◌+◌, ◌<◌, List, [], ◌++◌, length, get_or, drop, refl, ap, ap₂, sym, ◌∙◌, subst, Bool, true, false, not}
+use Rattle.std.proofs.Common.{◌≡◌, ℕ, ◌+◌, ◌<◌, List, length, get_or, drop, refl, ap, sym, ◌∙◌, Bool, true, false, not}
 use Rattle.std.specs.Prelude.{if◌then◌else◌, map}
-use Rattle.std.proofs.lemmas.List.{append-nil}
 use Rattle.shade_core.specs.declared.behaviour.Behaviour.{Behaviour}
-use Rattle.shade_core.specs.declared.statement.Act.{Act, out-Act}
+use Rattle.shade_core.specs.declared.statement.Act.{out-Act}
 use Rattle.shade_core.specs.declared.statement.Act.TheOpen as act
 use Rattle.shade_core.specs.declared.statement.CoreStatement.{CoreStatement}
 use Rattle.shade_core.specs.Code.{Code, done, parts_from, act_before, act_code, statement_code, part_code, code_of}
-use Rattle.shade_core.specs.Behaviour.{joined, after_switch, after_loop, behaviour, branch_behaviour, loop_behaviour}
+use Rattle.shade_core.specs.Behaviour.{after_switch, behaviour, branch_behaviour, loop_behaviour}
 use Rattle.shade_core.proofs.CodeLaws.{layer, act_is, statement_is, turn_next, parts_same, drop_here}
-use Rattle.std.specs.Prelude.{is_some}
 use Rattle.shade_graph.specs.declared.node.Node.{Node}
 use Rattle.shade_graph.specs.declared.node.Node.TheVariants.{After}
 use Rattle.shade_graph.specs.Graph.{end_of}
-use Rattle.shade_graph.specs.Gathered.{Layer, nodes_of, edges_of, layer_nodes, layer_edges, goes_past}
+use Rattle.shade_graph.specs.Gathered.{Layer}
 
 abbrev going : Behaviour → Node → Code → ℕ → Node
 going b a rest n = if b.next then end_of (After n) rest else After n

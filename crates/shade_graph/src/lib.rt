@@ -4,7 +4,9 @@
 #![tactic(auto)]
 
 mod gather;
+mod graph;
 mod node;
 mod order;
 
+pub use graph::{FnGraph, graph_of};
 pub use node::{Node, Tag, Via};
