@@ -24,10 +24,13 @@ count_of severity violations = count_by (λ v. severity_rank v.severity == sever
 abbrev pub verdict_word : ℕ → List ℕ
 verdict_word errors = if errors == 0 then codes "accepted" else codes "rejected"
 
--- the first line, by the numbers of errors, warnings and infos
+-- the numbers of errors, warnings and infos
+abbrev pub counts_text : ℕ → ℕ → ℕ → List ℕ
+counts_text errors warnings infos =
+    (codes " errors " ++ decimal errors) ++ ((codes " warnings " ++ decimal warnings) ++ ((codes " infos " ++ decimal infos) ++ codes "\n"))
+
 abbrev pub first_line : ℕ → ℕ → ℕ → List ℕ
-first_line errors warnings infos =
-    verdict_word errors ++ ((codes " errors " ++ decimal errors) ++ ((codes " warnings " ++ decimal warnings) ++ ((codes " infos " ++ decimal infos) ++ codes "\n")))
+first_line errors warnings infos = verdict_word errors ++ counts_text errors warnings infos
 
 abbrev pub name_of : Option CoreFunction → List ℕ
 name_of None = []

@@ -8,4 +8,4 @@ mod check_report;
 mod label;
 mod source;
 
-pub use check_report::check_text;
+pub use check_report::{check_text, count_with};

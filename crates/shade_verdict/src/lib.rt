@@ -3,6 +3,8 @@
 //! What a violation is stands in `specs/Violations.antt`.
 #![tactic(auto)]
 
+mod law;
 mod violation;
 
+pub use law::violations_are_one_list;
 pub use violation::{NodePath, PathStep, Violation};

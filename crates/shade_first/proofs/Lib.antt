@@ -1,0 +1,13 @@
+pub mod Blocks
+pub mod Counts
+pub mod Errors
+pub mod LexLaws
+pub mod Lowered
+pub mod Numbers
+pub mod Once
+pub mod Shaders
+pub mod Stages
+pub mod TextLaws
+pub mod Texts
+pub mod Tokens
+pub mod Words

@@ -1,0 +1,9 @@
+pub mod FirstForm
+pub mod Form
+pub mod Laws
+pub mod Lines
+pub mod Lowering
+pub mod Reads
+pub mod Reserved
+pub mod Steps
+pub mod Tokens
