@@ -8,7 +8,7 @@ mod behaviour;
 mod module;
 mod statement;
 
-pub use behaviour::Behaviour;
+pub use behaviour::{Behaviour, act_behaviour, list_behaviour};
 pub use module::{
     BuiltinInput, CoreFunction, CoreModule, CoreParam, CoreParams, Functions, Root, Roots, Site,
     TypeIds,

@@ -1,2 +1,4 @@
 pub mod Graph
 pub mod Order
+pub mod Gathered
+pub mod Numbered

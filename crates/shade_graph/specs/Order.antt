@@ -1,5 +1,5 @@
 -- The order of the nodes of a graph.
-use Rattle.std.specs.Prelude.{◌≡◌, ℕ, ◌<◌, ◌⊎◌}
+use Rattle.std.specs.Prelude.{◌≡◌, ℕ, ◌<◌, ◌⊎◌, List, Some, slice_get}
 use Rattle.shade_base.specs.declared.severity.Severity.{Severity}
 use Rattle.shade_base.specs.declared.severity.Severity.TheVariants.{Error, Warning, Info, Off}
 use Rattle.shade_graph.specs.declared.node.Node.{Node}
@@ -47,3 +47,7 @@ second_key _ = 0
 -- One node comes before another: by kind, then by parameter or statement, then by part or argument.
 abbrev pub NodeLess : Node → Node → Type 0
 NodeLess u v = (rank u < rank v) ⊎ ((rank u ≡ rank v) × ((first_key u < first_key v) ⊎ ((first_key u ≡ first_key v) × (second_key u < second_key v))))
+
+-- in node order, each once
+abbrev pub IsAscending : List Node → Type 0
+IsAscending nodes = (j k : ℕ) (u v : Node) → j < k → slice_get nodes j ≡ Some u → slice_get nodes k ≡ Some v → NodeLess u v

@@ -3,6 +3,10 @@
 //! The definitions stand in `specs/`: the nodes and edges in `Graph.antt`, the order of nodes in `Order.antt`.
 #![tactic(auto)]
 
+mod gather;
+mod graph;
 mod node;
+mod order;
 
+pub use graph::{FnGraph, graph_of};
 pub use node::{Node, Tag, Via};

@@ -3,7 +3,7 @@
 use shade_base::Severity;
 
 /// A node of a function's graph. Statements, parameters, parts and arguments are named by their numbers.
-#[derive(Clone, Copy, Debug, PartialEq, Eq)]
+#[derive(Clone, Copy, Debug, PartialEq, Eq, PartialOrd, Ord)]
 pub enum Node {
     /// What a collective statement of this severity asks to be uniform.
     Required(Severity),

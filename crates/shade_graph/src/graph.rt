@@ -1,0 +1,238 @@
+// The uniformity graph of a function, by the numbers of its nodes.
+ghost use Rattle.std.specs.Prelude.{◌≡◌, ℕ, ◌<◌, ◌^◌, ◌++◌, ◌∷◌, [], map, length, slice_get, Some, IfOk, IfSome, IfNone};
+ghost use Rattle.shade_graph.specs.Order.{IsAscending};
+ghost use Rattle.shade_core.specs.Code.{code_of};
+ghost use Rattle.shade_reach.specs.Digraph.{JoinsNodes};
+ghost use Rattle.shade_graph.specs.declared.node.Node.TheVariants.{Start};
+ghost use Rattle.shade_graph.specs.Gathered.{edges_of};
+ghost use Rattle.shade_graph.specs.Numbered.{IsGraphOf, fixed_nodes, param_nodes, returned_nodes, all_nodes, input_pairs, param_pairs, entry_pairs, ends, Numbers, IsNumbered};
+
+use crate::Node;
+use crate::gather::{Gathered, GivenEdge, gather_list};
+use crate::order::{in_order, number_of};
+use shade_base::Severity;
+use shade_core::{BuiltinInput, CoreFunction, CoreParam};
+use shade_reach::Graph;
+use std::alloc::{AllocError, Global};
+use std::marker::Model;
+
+/// The uniformity graph of a function: its nodes in node order, and its edges by the numbers of their nodes there.
+#[derive(Debug, Drop)]
+pub struct FnGraph {
+    nodes: Vec<Node>,
+    graph: Graph,
+}
+
+impl Model for FnGraph {
+    ghost use Rattle.std.specs.Prelude.{◌≡◌, ◌<◌, ◌^◌, length};
+    ghost use Rattle.shade_graph.specs.Order.{IsAscending};
+    ghost use Rattle.shade_graph.specs.Numbered.{FunctionGraph};
+
+    ghost Value = { FunctionGraph };
+
+    ghost view = { λ g. record { nodes = g.nodes.items; edges = g.graph.edges } };
+
+    ghost invariant = { λ g. (g.graph.nodes ≡ length g.nodes.items) × (length g.nodes.items < 2 ^ 32) × IsAscending g.nodes.items };
+}
+
+impl FnGraph {
+    /// The nodes in node order. Takes no memory.
+    pub fn nodes(&self) -> &[Node]
+        ensures nodes { result.now ≡ self.now.nodes }
+        ensures ascending { IsAscending result.now }
+        ensures count { length result.now < 2 ^ 32 }
+    {
+        &self.nodes
+    }
+
+    /// The edges, by the numbers of their nodes. Takes no memory.
+    pub fn graph(&self) -> &Graph
+        ensures { result.now ≡ record { nodes = length self.now.nodes; edges = self.now.edges } }
+    {
+        &self.graph
+    }
+
+    /// The number of a node, where it stands in the graph. Takes no memory.
+    pub fn number_of(&self, node: Node) -> Option<u32>
+        ensures some { IfSome result (λ number. slice_get self.now.nodes number ≡ Some node) }
+        ensures none { IfNone result ((number : ℕ) → slice_get self.now.nodes number ≡ Some node → ⊥) }
+    {
+        let number = number_of(&self.nodes, node)?;
+        Some(number as u32)
+    }
+}
+
+/// Adds the nodes that every graph has.
+fn add_fixed(nodes: &mut Vec<Node>) -> Result<(), AllocError>
+    ensures { IfOk result (λ _. nodes.new.items ≡ nodes.old.items ++ fixed_nodes) }
+{
+    nodes.push(Node::Required(Severity::Error))?;
+    nodes.push(Node::Required(Severity::Warning))?;
+    nodes.push(Node::Required(Severity::Info))?;
+    nodes.push(Node::NonUniform)?;
+    nodes.push(Node::Start)?;
+    Ok(())
+}
+
+/// Adds the nodes of parameters.
+fn add_params(params: &[CoreParam], nodes: &mut Vec<Node>) -> Result<(), AllocError>
+    requires { length params.now < 2 ^ 32 }
+    ensures { IfOk result (λ _. nodes.new.items ≡ nodes.old.items ++ param_nodes 0 params.now) }
+{
+    let mut number = 0;
+    'params: for param in params {
+        let _ = *param;
+        nodes.push(Node::Param(number))?;
+        number += 1;
+    }
+    Ok(())
+}
+
+/// Adds the node of the value that a function gives, where it gives one.
+fn add_returned(function: &CoreFunction, nodes: &mut Vec<Node>) -> Result<(), AllocError>
+    ensures { IfOk result (λ _. nodes.new.items ≡ nodes.old.items ++ returned_nodes function.now.result) }
+{
+    if function.result.is_some() {
+        nodes.push(Node::Returned)?;
+    }
+    Ok(())
+}
+
+/// Adds the edge of an input that differs from lane to lane.
+fn add_input(number: u32, param: CoreParam, pairs: &mut Vec<(Node, Node)>) -> Result<(), AllocError>
+    ensures { IfOk result (λ _. pairs.new.items ≡ pairs.old.items ++ input_pairs number param) }
+{
+    match param {
+        CoreParam::Input(
+            BuiltinInput::LocalId | BuiltinInput::LocalIndex | BuiltinInput::GlobalId,
+        ) => {
+            pairs.push((Node::Param(number), Node::NonUniform))?;
+        }
+        _ => {}
+    }
+    Ok(())
+}
+
+/// Adds the edges of the inputs that differ from lane to lane.
+fn add_inputs(params: &[CoreParam], pairs: &mut Vec<(Node, Node)>) -> Result<(), AllocError>
+    requires { length params.now < 2 ^ 32 }
+    ensures { IfOk result (λ _. pairs.new.items ≡ pairs.old.items ++ param_pairs 0 params.now) }
+{
+    let mut number = 0;
+    'params: for param in params {
+        add_input(number, *param, pairs)?;
+        number += 1;
+    }
+    Ok(())
+}
+
+/// The ends of all edges: those of an entry's inputs, and those that statements give.
+fn pairs_of(
+    alloc: Global,
+    function: &CoreFunction,
+    given: &[GivenEdge],
+) -> Result<Vec<(Node, Node)>, AllocError>
+    requires { length function.now.params < 2 ^ 32 }
+    ensures { IfOk result (λ pairs. pairs.items ≡ entry_pairs function.now ++ map ends given.now) }
+{
+    let mut pairs = Vec::new(alloc);
+    if function.entry.is_some() {
+        add_inputs(function.params.as_slice(), &mut pairs)?;
+    }
+    'given: for edge in given {
+        pairs.push((edge.from, edge.to))?;
+    }
+    Ok(pairs)
+}
+
+/// Adds the edge of a pair whose ends both stand.
+fn number_pair(
+    nodes: &[Node],
+    pair: (Node, Node),
+    edges: &mut Vec<(u32, u32)>,
+) -> Result<(), AllocError>
+    requires ascending { IsAscending nodes.now }
+    requires count { length nodes.now < 2 ^ 32 }
+    ensures { IfOk result (λ _. Numbers nodes.now pair edges.old.items edges.new.items) }
+{
+    let Some(from) = number_of(nodes, pair.0) else {
+        return Ok(());
+    };
+    let Some(to) = number_of(nodes, pair.1) else {
+        return Ok(());
+    };
+    edges.push((from as u32, to as u32))?;
+    Ok(())
+}
+
+/// The edges of the pairs whose ends both stand.
+fn numbered(
+    alloc: Global,
+    nodes: &[Node],
+    pairs: &[(Node, Node)],
+) -> Result<Vec<(u32, u32)>, AllocError>
+    requires ascending { IsAscending nodes.now }
+    requires count { length nodes.now < 2 ^ 32 }
+    ensures { IfOk result (λ edges. IsNumbered nodes.now pairs.now edges.items) }
+{
+    let mut edges = Vec::new(alloc);
+    'pairs: for pair in pairs {
+        number_pair(nodes, *pair, &mut edges)?;
+    }
+    Ok(edges)
+}
+
+/// Gathers the nodes of a function, and the edges that its statements give.
+fn gather(alloc: Global, function: &CoreFunction) -> Result<Gathered, AllocError>
+    requires { length function.now.params < 2 ^ 32 }
+    ensures nodes { IfOk result (λ gathered. gathered.nodes.items ≡ all_nodes function.now) }
+    ensures edges { IfOk result (λ gathered. gathered.edges.items ≡ edges_of Start (code_of function.now.body)) }
+{
+    let mut gathered = Gathered {
+        nodes: Vec::new(alloc),
+        edges: Vec::new(alloc),
+    };
+    add_fixed(&mut gathered.nodes)?;
+    add_params(function.params.as_slice(), &mut gathered.nodes)?;
+    add_returned(function, &mut gathered.nodes)?;
+    gather_list(&function.body, Node::Start, &mut gathered)?;
+    Ok(gathered)
+}
+
+/// The edges of a function by the numbers of these nodes, from those that its statements give.
+fn numbered_edges(
+    alloc: Global,
+    function: &CoreFunction,
+    nodes: &[Node],
+    given: &[GivenEdge],
+) -> Result<Vec<(u32, u32)>, AllocError>
+    requires params { length function.now.params < 2 ^ 32 }
+    requires ascending { IsAscending nodes.now }
+    requires count { length nodes.now < 2 ^ 32 }
+    ensures edges { IfOk result (λ edges. IsNumbered nodes.now (entry_pairs function.now ++ map ends given.now) edges.items) }
+    ensures within { IfOk result (λ edges. JoinsNodes (length nodes.now) edges.items) }
+{
+    let pairs = pairs_of(alloc, function, given)?;
+    let edges = numbered(alloc, nodes, &pairs)?;
+    Ok(edges)
+}
+
+/// The uniformity graph of a function.
+///
+/// Takes time in the order of a sort of its nodes and edges, and memory for each of them. Nodes have numbers of 32 bits:
+/// where there are more of them than that, the answer is that of a graph too large for the memory.
+pub fn graph_of(alloc: Global, function: &CoreFunction) -> Result<FnGraph, AllocError>
+    ensures { IfOk result (λ graph. IsGraphOf function.now graph) }
+{
+    if function.params.len() > u32::MAX as usize {
+        return Err(AllocError);
+    }
+    let Gathered { nodes, edges } = gather(alloc, function)?;
+    let nodes = in_order(nodes);
+    if nodes.len() > u32::MAX as usize {
+        return Err(AllocError);
+    }
+    let edges = numbered_edges(alloc, function, &nodes, &edges)?;
+    let graph = Graph::new(alloc, nodes.len() as u32, edges)?;
+    Ok(FnGraph { nodes, graph })
+}
