@@ -1,0 +1,4 @@
+mod Regions
+mod Owed
+mod Runs
+mod Firsts

@@ -1,0 +1,5 @@
+use Rattle.shade_sound.proofs.Firsts.{traces}
+use Rattle.shade_sound.proofs.law.clean_traces_agree.Goals as goal
+
+pub returns : goal.returns
+returns c = traces

@@ -1,0 +1,29 @@
+-- The convergence of clean shaders of the first form, over all lists of lane steps. Lists may name any numbers: a number that is no
+-- lane's is a step that changes nothing but the counts.
+use Rattle.std.specs.Prelude.{◌≡◌, ◌⊎◌, ℕ, Bool, true, false, List, ◌++◌, Option, None, Some, slice_get}
+use Rattle.shade_core.specs.declared.module.CoreModule.{CoreModule}
+use Rattle.shade_verdict.specs.Clean.{IsClean}
+use Rattle.shade_first.specs.FirstForm.{StandsFor}
+use Rattle.shade_mem.specs.declared.inputs.Inputs.{Inputs}
+use Rattle.shade_lane.specs.Members.{Member, is_ended}
+use Rattle.shade_group.specs.Group.{Machine, begin, run, trace}
+
+-- No run of a clean shader has diverged.
+abbrev pub NeverDiverges : Type 0
+NeverDiverges = (text : List ℕ) (shader : CoreModule) (inputs : Inputs) (steps : List ℕ) → StandsFor text shader → IsClean shader.functions → (run (begin shader inputs) steps).diverged ≡ None
+
+abbrev pub IsPrefixOf : List (List ℕ) → List (List ℕ) → Type 0
+IsPrefixOf xs ys = (rest : List (List ℕ)) × (xs ++ rest ≡ ys)
+
+abbrev pub has_ended : Option Member → Bool
+has_ended None = false
+has_ended (Some member) = is_ended member.state
+
+-- Of the traces of two lanes one is a prefix of the other, and where a lane has ended, the other's is a prefix of its.
+abbrev pub TracesAgree : Type 0
+TracesAgree =
+    (text : List ℕ) (shader : CoreModule) (inputs : Inputs) (steps : List ℕ) (one other : ℕ) → StandsFor text shader → IsClean shader.functions
+    → (IsPrefixOf (trace (begin shader inputs) steps one) (trace (begin shader inputs) steps other)
+    ⊎ IsPrefixOf (trace (begin shader inputs) steps other) (trace (begin shader inputs) steps one))
+    × (has_ended (slice_get (run (begin shader inputs) steps).members one) ≡ true
+    → IsPrefixOf (trace (begin shader inputs) steps other) (trace (begin shader inputs) steps one))

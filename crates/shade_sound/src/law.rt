@@ -1,0 +1,13 @@
+// The headline: clean shaders converge at their barriers.
+ghost use Rattle.shade_sound.specs.Laws.{NeverDiverges, TracesAgree};
+
+/// Whichever lanes are stepped, the lanes of a clean shader of the first form never diverge at a barrier.
+pub fn clean_never_diverges()
+    ensures { NeverDiverges }
+{}
+
+/// Of the instances at which two lanes of a clean shader of the first form came to wait, one list is a beginning of the
+/// other; where a lane has ended, the other's list is a beginning of its.
+pub fn clean_traces_agree()
+    ensures { TracesAgree }
+{}
