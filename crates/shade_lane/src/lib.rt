@@ -4,6 +4,7 @@
 #![tactic(auto)]
 
 mod builtins;
+mod rest;
 mod state;
 
 pub use builtins::Builtins;
