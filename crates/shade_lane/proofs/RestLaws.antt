@@ -1,8 +1,8 @@
 -- The open lists, the innermost first.
-use Rattle.std.proofs.Common.{◌≡◌, ℕ, List, [], ◌∷◌, ◌++◌, refl, ap, sym, ◌∙◌, map, reverse, length, arith, Bor}
+use Rattle.std.proofs.Common.{◌≡◌, List, [], ◌∷◌, ◌++◌, refl, ap, ◌∙◌, map, reverse, length, arith, Bor}
 use Rattle.std.proofs.lemmas.List.{map_push, reverse-append}
 use Rattle.shade_core.specs.declared.statement.CoreStatement.{CoreStatement}
-use Rattle.shade_lane.specs.Seen.{place_of, later_of, below_of, HasFirst}
+use Rattle.shade_lane.specs.Seen.{place_of}
 
 -- the last list is the innermost
 pub view_push : (lists : List (Bor (List CoreStatement))) (list : Bor (List CoreStatement)) → reverse (map (λ l. l.now) (lists ++ list ∷ [])) ≡ list.now ∷ reverse (map (λ l. l.now) lists)

@@ -1,5 +1,5 @@
 -- What callers see of a lane, and the lane that it stands for.
-use Rattle.std.specs.Prelude.{◌≡◌, ℕ, Bool, true, false, List, [], ◌∷◌, Option, refl, slice_get}
+use Rattle.std.specs.Prelude.{◌≡◌, ℕ, Bool, true, false, List, [], ◌∷◌, Option, None, refl, slice_get}
 use Rattle.std.specs.Coded.{Coded, code_by, coded×, coded_ℕ, coded_list, coded_option}
 use Rattle.shade_values.specs.declared.value.Value.{Value}
 use Rattle.shade_values.specs.contracts.value.Value as value_row
@@ -8,8 +8,11 @@ use Rattle.shade_core.specs.contracts.statement.CoreStatement as statement_row
 use Rattle.shade_core.specs.Code.{code_of}
 use Rattle.shade_lane.specs.declared.state.LaneState.{LaneState}
 use Rattle.shade_lane.specs.contracts.state.LaneState as state_row
-use Rattle.shade_lane.specs.Lane.{Rest, halt, seq, Place, next, Lane, known}
-use Rattle.shade_lane.specs.Members.{Member}
+use Rattle.shade_lane.specs.declared.state.LaneState.TheVariants.{Able, Waiting, Ended}
+use Rattle.shade_lane.specs.declared.lane.LaneEvent.{LaneEvent}
+use Rattle.shade_lane.specs.declared.lane.LaneEvent.TheVariants as lane_event
+use Rattle.shade_lane.specs.Lane.{Rest, halt, seq, Place, next, known, step, is_over}
+use Rattle.shade_lane.specs.Members.{Member, arrival, state_by}
 
 -- the number of the entry, the values of the parameters, those that the statements gave, the open lists, the innermost first, and
 -- the state
@@ -63,3 +66,32 @@ abbrev pub has_first : List (List CoreStatement) → Bool
 has_first [] = false
 has_first ([] ∷ lists) = false
 has_first ((s ∷ list) ∷ lists) = true
+
+-- with these open lists and values
+abbrev pub went : List (List CoreStatement) → (ℕ → Option Value) → Member → Member
+went lists values m = record m { lane = record { place = place_of lists; values = values } }
+
+-- one of two parts
+abbrev pub part_of : Bool → List CoreStatement → List CoreStatement → List CoreStatement
+part_of true first second = first
+part_of false first second = second
+
+-- after a step, but for its end where nothing is left
+abbrev pub taken : Member → Member
+taken m = record m { lane = step m.params m.lane; state = state_by (arrival m.entry m.lane.place) false }
+
+abbrev pub finished_state : LaneState → Bool → LaneState
+finished_state Able true = Ended
+finished_state Able false = Able
+finished_state (Waiting space instance) over = Waiting space instance
+finished_state Ended over = Ended
+
+-- ended where it is able and nothing is left
+abbrev pub finished : Member → Member
+finished m = record m { state = finished_state m.state (is_over m.lane.place) }
+
+-- what a step answers that came to a state
+abbrev pub event_by : LaneState → LaneEvent
+event_by Able = lane_event.Ran None
+event_by (Waiting space instance) = lane_event.Arrives
+event_by Ended = lane_event.Ended

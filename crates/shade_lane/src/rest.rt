@@ -30,10 +30,7 @@ impl<'m> Model for Rest<'m> {
 
 impl<'m> Rest<'m> {
     /// All of a body.
-    pub(crate) fn begin(
-        alloc: Global,
-        body: &'m [CoreStatement],
-    ) -> Result<Rest<'m>, AllocError>
+    pub(crate) fn begin(alloc: Global, body: &'m [CoreStatement]) -> Result<Rest<'m>, AllocError>
         ensures { IfOk result (λ rest. rest ≡ body.now ∷ []) }
     {
         let mut lists = Vec::new(alloc);

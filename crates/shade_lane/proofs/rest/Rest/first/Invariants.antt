@@ -1,5 +1,4 @@
-use Rattle.std.proofs.Common.{◌≡◌, ◌<◌, ◌≤◌, map, reverse, vec_len}
-use Rattle.std.specs.Prelude.{vec_capacity}
+use Rattle.std.proofs.Common.{◌≡◌, map, reverse, vec_len}
 use Rattle.shade_lane.specs.Seen.{place_of}
 use Rattle.shade_lane.proofs.rest.Rest.first.Given as goal
 
