@@ -1,7 +1,7 @@
 -- The workgroup machine: its start, its step and its run, when it diverged, and the trace of a lane.
 -- (WGSL, "Control Barriers": all lanes of a workgroup wait at a barrier until each of them does.)
 use Rattle.std.specs.Prelude.{◌≡◌, ℕ, zero, suc, ◌+◌, ◌*◌, ◌/◌, ◌%◌, ◌≤◌, Bool, true, false, not, ◌&&◌, List, [], ◌∷◌, ◌++◌, map, Option, None, Some, is_none, if◌then◌else◌, ◌==◌, nat_lt, slice_get, slice_set, slice_index, length}
-use Rattle.std.specs.List.{list_all, position}
+use Rattle.std.specs.List.{list_all}
 use Rattle.shade_base.specs.Counter.{one_more}
 use Rattle.shade_values.specs.declared.types.Space.{Space}
 use Rattle.shade_values.specs.declared.types.Space.TheVariants.{Workgroup, Storage}
@@ -15,19 +15,15 @@ use Rattle.shade_lane.specs.declared.state.LaneState.{LaneState}
 use Rattle.shade_lane.specs.declared.state.LaneState.TheVariants.{Able, Waiting, Ended}
 use Rattle.shade_lane.specs.Lane.{runs}
 use Rattle.shade_lane.specs.Members.{Member, Arrival, arrival, moved, freed, begin_member, is_able, is_waiting, is_ended}
+use Rattle.shade_group.specs.declared.event.Epochs.{Epochs}
 use Rattle.shade_group.specs.declared.event.GroupEvent.{GroupEvent}
 use Rattle.shade_group.specs.declared.event.GroupEvent.TheVariants as group_event
 use Rattle.shade_group.specs.declared.event.RunEnd.{RunEnd}
 use Rattle.shade_group.specs.declared.event.RunEnd.TheVariants as run_end
 
--- how many barriers of each space were passed
-pub record Epochs : Type 0 where
-  pub workgroup : ℕ
-  pub storage : ℕ
-
 -- Lanes with one memory: the lanes by number, the words of each root, the epochs, the released instances in order, the two lanes
--- that stopped unlike each other where the run diverged, and how many steps were taken and how many of them were stutters. The last
--- two stand in 64 bits, and stand still at the last number.
+-- that stopped unlike each other where the run diverged, and how many steps were taken and how many of them were stutters. Epochs
+-- and counts of steps are counters of 64 bits.
 pub record Machine : Type 0 where
   pub members : List Member
   pub memory : List (List ℕ)
@@ -55,9 +51,14 @@ unlike Ended Able = false
 unlike Ended (Waiting t b) = true
 unlike Ended Ended = false
 
+-- the least lane that is unlike a state, where the first lane has this number
+abbrev pub unlike_from : ℕ → LaneState → List Member → Option ℕ
+unlike_from n state [] = None
+unlike_from n state (m ∷ members) = if unlike state m.state then Some n else unlike_from (n + 1) state members
+
 -- the least lane that is unlike a state
 abbrev pub least_unlike : LaneState → List Member → Option ℕ
-least_unlike state members = position (λ m. unlike state m.state) members
+least_unlike state members = unlike_from 0 state members
 
 -- two numbers, the lesser first
 abbrev pub ordered : ℕ → ℕ → ℕ × ℕ
@@ -65,8 +66,8 @@ ordered a b = if nat_lt b a then (b, a) else (a, b)
 
 -- with a barrier of a space passed once more
 abbrev pub raised : Space → Epochs → Epochs
-raised Workgroup e = record e { workgroup = e.workgroup + 1 }
-raised Storage e = record e { storage = e.storage + 1 }
+raised Workgroup e = record e { workgroup = one_more e.workgroup }
+raised Storage e = record e { storage = one_more e.storage }
 raised _ e = e
 
 abbrev pub all_wait : List Member → Bool
@@ -78,6 +79,12 @@ all_ended members = list_all (λ m. is_ended m.state) members
 -- every lane is able again
 abbrev pub release : Space → List ℕ → Machine → Machine
 release space instance m = record m { members = map freed m.members; epochs = raised space m.epochs; released = m.released ++ instance ∷ [] }
+
+-- every lane is able again, where they waited at this state's instance
+abbrev pub release_by : LaneState → Machine → Machine
+release_by (Waiting space instance) m = release space instance m
+release_by Able m = m
+release_by Ended m = m
 
 -- where a lane came to wait, alike with all that stopped: a release where every lane waits
 abbrev pub met : Bool → Space → List ℕ → Machine → Machine
@@ -137,13 +144,19 @@ run m (number ∷ numbers) = run (step m number) numbers
 
 -- ---- what a step answers
 
+abbrev pub parted_event : ℕ → ℕ → GroupEvent
+parted_event number other = group_event.Diverged (ordered number other).0 (ordered number other).1
+
+abbrev pub released_event : ℕ → GroupEvent
+released_event n = group_event.Released n
+
 abbrev pub ended_event : ℕ → Option ℕ → Machine → GroupEvent
 ended_event number None m = if all_ended m.members then group_event.Ended else group_event.Ran
-ended_event number (Some other) m = group_event.Diverged (ordered number other).0 (ordered number other).1
+ended_event number (Some other) m = parted_event number other
 
 abbrev pub waited_event : ℕ → Option ℕ → Machine → GroupEvent
-waited_event number None m = if all_wait m.members then group_event.Released (length m.released) else group_event.Ran
-waited_event number (Some other) m = group_event.Diverged (ordered number other).0 (ordered number other).1
+waited_event number None m = if all_wait m.members then released_event (length m.released) else group_event.Ran
+waited_event number (Some other) m = parted_event number other
 
 -- where the lane with a number came to a state
 abbrev pub settled_event : ℕ → LaneState → Machine → GroupEvent

@@ -21,3 +21,10 @@ pub enum RunEnd {
     Diverged(u32, u32),
     Running,
 }
+
+/// How many barriers of each space were passed.
+#[derive(Clone, Copy, Debug, PartialEq, Eq)]
+pub struct Epochs {
+    pub workgroup: u64,
+    pub storage: u64,
+}

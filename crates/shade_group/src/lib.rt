@@ -4,5 +4,9 @@
 #![tactic(auto)]
 
 mod event;
+mod group;
+mod lanes;
+mod steps;
 
-pub use event::{GroupEvent, RunEnd};
+pub use event::{Epochs, GroupEvent, RunEnd};
+pub use group::Group;

@@ -4,7 +4,11 @@
 #![tactic(auto)]
 
 mod builtins;
+mod lane;
+mod rest;
 mod state;
+mod values;
 
 pub use builtins::Builtins;
+pub use lane::{Lane, LaneEvent};
 pub use state::{Instance, LaneState};

@@ -1,0 +1,134 @@
+// What is asked of all lanes, and done to all.
+
+ghost use Rattle.std.specs.Prelude.{◌≡◌, ◌<◌, ◌^◌, length, map};
+ghost use Rattle.std.specs.Cmp.Lexicographic.{pointwise};
+ghost use Rattle.shade_group.specs.Group.{raised as raised_of, least_unlike as least_unlike_of, same_instance as same_instance_of, unlike as unlike_of};
+ghost use Rattle.std.specs.List.{list_all};
+ghost use Rattle.shade_base.specs.Counter.{one_more as one_more_of};
+ghost use Rattle.shade_group.specs.Seen.{members_of, state_at};
+ghost use Rattle.shade_lane.specs.Members.{freed, is_able as is_able_of, is_ended as is_ended_of, is_waiting as is_waiting_of};
+
+use crate::event::Epochs;
+use shade_lane::{Instance, Lane, LaneState};
+use shade_values::Space;
+
+/// Whether a lane may step.
+pub(crate) fn is_able(state: &LaneState) -> bool
+    ensures { result ≡ is_able_of state.now }
+{
+    match state {
+        LaneState::Able => true,
+        LaneState::Waiting(_, _) | LaneState::Ended => false,
+    }
+}
+
+pub(crate) fn is_waiting(state: &LaneState) -> bool
+    ensures { result ≡ is_waiting_of state.now }
+{
+    match state {
+        LaneState::Waiting(_, _) => true,
+        LaneState::Able | LaneState::Ended => false,
+    }
+}
+
+fn is_ended(state: &LaneState) -> bool
+    ensures { result ≡ is_ended_of state.now }
+{
+    match state {
+        LaneState::Ended => true,
+        LaneState::Able | LaneState::Waiting(_, _) => false,
+    }
+}
+
+/// Whether two instances have the same words.
+#[tactic(auto, using(crate::proofs::LaneLaws::same_words))]
+fn same_instance(one: &Instance, other: &Instance) -> bool
+    ensures { result ≡ same_instance_of one.now other.now }
+{
+    one.as_slice() == other.as_slice()
+}
+
+/// Whether two lanes stopped, and not alike.
+fn unlike(one: &LaneState, other: &LaneState) -> bool
+    ensures { result ≡ unlike_of one.now other.now }
+{
+    match (one, other) {
+        (LaneState::Waiting(_, here), LaneState::Waiting(_, there)) => !same_instance(here, there),
+        (LaneState::Waiting(_, _), LaneState::Ended) => true,
+        (LaneState::Ended, LaneState::Waiting(_, _)) => true,
+        (LaneState::Ended, LaneState::Ended) => false,
+        (LaneState::Able, _) | (_, LaneState::Able) => false,
+    }
+}
+
+/// The least lane that is unlike a state.
+fn least_unlike(lanes: &[Lane], state: &LaneState) -> Option<u32>
+    requires { length lanes.now < 2 ^ 32 }
+    ensures { result ≡ least_unlike_of state.now (members_of lanes.now) }
+{
+    let mut number = 0;
+    for lane in lanes {
+        if unlike(state, lane.state()) {
+            return Some(number);
+        }
+        number += 1;
+    }
+    None
+}
+
+/// The least lane that is unlike the lane with a number.
+pub(crate) fn least_unlike_at(lanes: &[Lane], number: u32) -> Option<u32>
+    requires few { length lanes.now < 2 ^ 32 }
+    requires within { number < length lanes.now }
+    ensures { result ≡ least_unlike_of (state_at lanes.now number) (members_of lanes.now) }
+{
+    least_unlike(lanes, lanes[number as usize].state())
+}
+
+/// Whether every lane waits.
+pub(crate) fn all_wait(lanes: &[Lane]) -> bool
+    ensures { result ≡ list_all (λ lane. is_waiting_of lane.state) lanes.now }
+{
+    lanes.iter().all(|lane| is_waiting(lane.state()))
+}
+
+/// Whether every lane ended.
+pub(crate) fn all_ended(lanes: &[Lane]) -> bool
+    ensures { result ≡ list_all (λ lane. is_ended_of lane.state) lanes.now }
+{
+    lanes.iter().all(|lane| is_ended(lane.state()))
+}
+
+/// Lets every lane step again.
+pub(crate) fn free(lanes: &mut Vec<Lane>)
+    ensures members { members_of lanes.new.items ≡ map freed (members_of lanes.old.items) }
+    ensures len { length lanes.new.items ≡ length lanes.old.items }
+{
+    for number in 0..lanes.len() {
+        lanes[number].resume();
+    }
+}
+
+/// A barrier of a space was passed once more.
+pub(crate) fn raised(epochs: Epochs, space: Space) -> Epochs
+    ensures { result ≡ raised_of space epochs }
+{
+    match space {
+        Space::Workgroup => Epochs {
+            workgroup: one_more(epochs.workgroup),
+            storage: epochs.storage,
+        },
+        Space::Storage => Epochs {
+            workgroup: epochs.workgroup,
+            storage: one_more(epochs.storage),
+        },
+        Space::Function | Space::Private | Space::Uniform => epochs,
+    }
+}
+
+/// One more, in a counter that stands still at its last number.
+pub(crate) fn one_more(count: u64) -> u64
+    ensures { result ≡ one_more_of count }
+{
+    count.saturating_add(1)
+}
