@@ -83,3 +83,6 @@ fn offset_at(tokens: &[Token], at: usize, stop: u32) -> u32
         None => stop,
     }
 }
+
+#[cfg(test)]
+mod tests;
