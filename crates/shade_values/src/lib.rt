@@ -1,6 +1,8 @@
 //! Types, their layout, values, and the operations on them.
 #![tactic(auto)]
 
+mod entry;
+mod layouts;
 pub mod name;
 pub mod op;
 pub mod table;

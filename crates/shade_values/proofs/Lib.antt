@@ -1,0 +1,4 @@
+pub mod Lists
+pub mod LayoutLaws
+pub mod ShapeLaws
+pub mod SoundLaws
