@@ -90,8 +90,11 @@ over_more structs s n (Vector parts scalar) h = h
 over_more structs s n (Array element count) h = h
 over_more structs s n (RuntimeArray element) h = h
 over_more structs s n (Atomic scalar) h = h
-over_more structs s n (Struct number) h =
-    (omega (arith, length-append structs (s ∷ [])), subst (AreKnown n) (sym (members_front structs s number h.0)) h.1)
+over_more structs s n (Struct number) h = (
+  omega (arith, length-append structs (s ∷ [])),
+  subst (λ ms. 0 < length ms) (sym (members_front structs s number h.0)) h.1,
+  subst (AreKnown n) (sym (members_front structs s number h.0)) h.2,
+)
 over_more structs s n (Exchanged scalar) h = h
 over_more structs s n (Pointer space pointee access) h = h
 
@@ -142,7 +145,7 @@ spell_stays structs known more (Vector parts scalar) h = refl
 spell_stays structs known more (Array element count) h = ap (λ x. array x count) (get_or_append_left known more pointer element.0 h.0)
 spell_stays structs known more (RuntimeArray element) h = ap runtime_array (get_or_append_left known more pointer element.0 h)
 spell_stays structs known more (Atomic scalar) h = refl
-spell_stays structs known more (Struct number) h = ap structure (members_stay known more (members_at structs number) h.1)
+spell_stays structs known more (Struct number) h = ap structure (members_stay known more (members_at structs number) h.2)
 spell_stays structs known more (Exchanged scalar) h = refl
 spell_stays structs known more (Pointer space pointee access) h = refl
 

@@ -1,5 +1,5 @@
 -- What a table keeps beside each type: its layout, and whether it is loadable, from those of the types before it.
-use Rattle.std.specs.Prelude.{◌≡◌, Bool, true, false, List, map, slice_index_or, nat_le, if◌then◌else◌, Result, Ok, Err}
+use Rattle.std.specs.Prelude.{◌≡◌, ℕ, Bool, true, false, List, map, slice_index_or, nat_le, if◌then◌else◌, Result, Ok, Err}
 use Rattle.std.specs.List.{list_all}
 use Rattle.shade_values.specs.declared.types.Layout.{Layout}
 use Rattle.shade_values.specs.declared.types.ShadeType.{ShadeType}
@@ -9,7 +9,7 @@ use Rattle.shade_values.specs.declared.entry.Entry.{Entry}
 use Rattle.shade_values.specs.declared.table.TableFault.{TableFault}
 use Rattle.shade_values.specs.declared.table.TableFault.TheVariants.{TooLarge}
 use Rattle.shade_values.specs.Table.{Table, StructView, members_at}
-use Rattle.shade_values.specs.Shape.{Shape, shapes}
+use Rattle.shade_values.specs.Shape.{Shape, structure, member_shapes, shapes}
 use Rattle.shade_values.specs.Layouts.{layout, is_loadable, bytes, vector_layout, array_layout, struct_layout, greatest_size}
 use Rattle.shade_values.specs.Sound.{IsSound}
 
@@ -52,6 +52,10 @@ loads_by known structs (Pointer space pointee access) = false
 -- the layout, or the refusal of one that is too large
 abbrev pub laid : Layout → Result Layout TableFault
 laid l = if nat_le l.size greatest_size then Ok l else Err (TooLarge l.size)
+
+-- the shape of a struct with these members
+abbrev pub struct_shape : Table → List (List ℕ × TypeId) → Shape
+struct_shape t members = structure (member_shapes (shapes t) members)
 
 -- the refusal of a shape for its size
 abbrev pub too_large : Shape → Result TypeId TableFault

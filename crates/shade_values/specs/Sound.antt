@@ -9,14 +9,15 @@ use Rattle.shade_values.specs.Table.{Table, StructView, members_at}
 abbrev pub AreKnown : ℕ → List (List ℕ × TypeId) → Type 0
 AreKnown n members = All (λ m. m.1.0 < n) members
 
--- a type over the ids below n and the structs of a table: 2 to 4 parts of a vector, at least one element of an array
+-- a type over the ids below n and the structs of a table: 2 to 4 parts of a vector, at least one element of an array and one
+-- member of a struct
 abbrev pub IsOver : ℕ → List StructView → ShadeType → Type 0
 IsOver n structs (Plain scalar) = Unit {0}
 IsOver n structs (Vector parts scalar) = (2 ≤ parts) × (parts ≤ 4)
 IsOver n structs (Array element count) = (element.0 < n) × (0 < count)
 IsOver n structs (RuntimeArray element) = element.0 < n
 IsOver n structs (Atomic scalar) = Unit {0}
-IsOver n structs (Struct number) = (number < length structs) × AreKnown n (members_at structs number)
+IsOver n structs (Struct number) = (number < length structs) × (0 < length (members_at structs number)) × AreKnown n (members_at structs number)
 IsOver n structs (Exchanged scalar) = Unit {0}
 IsOver n structs (Pointer space pointee access) = pointee.0 < n
 

@@ -4,7 +4,7 @@ ghost use Rattle.std.specs.Prelude.{◌≡◌, ◌<◌, ◌≤◌, ◌^◌, ◌-
 ghost use Rattle.shade_values.specs.Table.{with_type, with_struct, no_types, members_at};
 ghost use Rattle.shade_values.specs.Shape.{shapes, shape_of, spell, member_shapes, structure};
 ghost use Rattle.shade_values.specs.Layouts.{layout, is_loadable, greatest_size, IsLarge};
-ghost use Rattle.shade_values.specs.Kept.{too_large};
+ghost use Rattle.shade_values.specs.Kept.{too_large, struct_shape};
 ghost use Rattle.shade_values.specs.Sound.{IsSound, IsOf, AreKnown};
 
 use crate::entry::{Entry, Struct};
@@ -94,6 +94,36 @@ impl TypeTable {
                 loadable,
             },
         )?;
+        Ok(id)
+    }
+
+    /// The id of a new struct, which is the next one, whatever other structs there are.
+    /// `TooLarge` has the size in bytes that the struct would have.
+    pub fn add_struct(
+        &mut self,
+        name: &str,
+        members: &[(Name, TypeId)],
+    ) -> Result<TypeId, TableFault>
+        requires room { length self.old.types < 2 ^ 32 - 1 }
+        requires some { 0 < length members.now }
+        requires known { AreKnown (length self.old.types) members.now }
+        ensures id { IfOk result (λ id. id.0 ≡ length self.old.types) }
+        ensures added { OnOk result (self.new ≡ with_struct self.old name.now members.now) }
+        ensures large { IsLarge (struct_shape self.old members.now) → result ≡ too_large (struct_shape self.old members.now) }
+        ensures small { ¬ IsLarge (struct_shape self.old members.now) → IfErr result (λ fault. fault ≡ TableFault.NoMemory) }
+        ensures refused { OnErr result (self.new ≡ self.old) }
+    {
+        let layout = layouts::layout_of_struct(&self.entries, members)?;
+        let loadable = layouts::struct_is_loadable(&self.entries, members);
+        let known = entry::copy_struct(*self.structs.allocator(), name, members)?;
+        let ty = ShadeType::Struct(self.structs.len() as u32);
+        let id = TypeId(self.entries.len() as u32);
+        let entry = Entry {
+            ty,
+            layout,
+            loadable,
+        };
+        entry::push_struct(&mut self.entries, entry, &mut self.structs, known)?;
         Ok(id)
     }
 
