@@ -1,5 +1,7 @@
 pub mod Kept
 pub mod Layouts
+pub mod Numbers
+pub mod Operations
 pub mod Shape
 pub mod Sound
 pub mod Table

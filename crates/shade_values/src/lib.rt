@@ -4,14 +4,18 @@
 mod entry;
 mod layouts;
 pub mod name;
+mod numbers;
 pub mod op;
+mod scalars;
 pub mod table;
 pub mod touch;
 pub mod types;
 pub mod value;
 
 pub use name::Name;
+pub use numbers::clamp;
 pub use op::Op;
+pub use scalars::leaf;
 pub use table::{TableFault, TypeTable};
 pub use touch::{Touch, TouchKind};
 pub use types::{Access, Layout, Scalar, ShadeType, Space, TypeId};
