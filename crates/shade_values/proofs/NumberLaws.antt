@@ -1,9 +1,9 @@
 -- Numbers modulo a power of two: what is left of a wrapped number.
 use Rattle.std.proofs.Common.{◌≡◌, refl, sym, ap, ◌∙◌, ℕ, zero, suc, ◌+◌, ◌-◌, ◌*◌, ◌/◌, ◌%◌, ◌^◌, ◌<◌, ◌≤◌, ℤ, pos, negsuc, arith, w32, w64, FitsSigned}
 use Rattle.std.specs.Prelude.{unsigned_abs, int_div, neg_ℤ, ◌+ℤ◌, ◌-ℤ◌, ◌*ℤ◌}
-use Rattle.std.proofs.lemmas.Nat.{div-add-mod', mod-mul-add, mod_below}
+use Rattle.std.proofs.lemmas.Nat.{pow-add, pow_pos}
 use Rattle.std.specs.Int.{int_wrap, cast_signed, cast_unsigned, int_wrapping_add, int_wrapping_sub, int_wrapping_mul, int_wrapping_neg, int_wrapping_div}
-use Rattle.std.proofs.Math.Nat.{div-le_self}
+use Rattle.std.proofs.Math.Nat.{div-le_self, mul-lt-mul_of_pos_right, pow-le-pow_right}
 use Rattle.std.proofs.lemmas.Int.{int_wrap_fits, SFits-int_wrap, wrapping_add_is, wrapping_sub_is, wrapping_mul_is, wrapping_neg_is}
 use Rattle.std.proofs.lemmas.Bool.Decides.{nat_tests}
 use Rattle.shade_values.specs.declared.types.Scalar.{Scalar}
@@ -102,3 +102,11 @@ pub quotient_by : (a b : ℤ) → (cast_unsigned w64 b ≡ 0 → ⊥) → quotie
 quotient_by a (pos zero) h = absurd (h refl)
 quotient_by a (pos (suc n)) h = grind (arith, nat_tests)
 quotient_by a (negsuc n) h = grind (arith, nat_tests)
+
+-- a field in its place is a number of 32 bits
+pub placed_small : (bits count offset : ℕ) → bits < 2 ^ count → offset + count ≤ 32 → bits * 2 ^ offset < 2 ^ 32
+placed_small bits count offset below within =
+    let more : bits * 2 ^ offset < 2 ^ count * 2 ^ offset = mul-lt-mul_of_pos_right below (pow_pos offset) in
+    let whole : 2 ^ (count + offset) ≡ 2 ^ count * 2 ^ offset = pow-add 2 count offset in
+    let least : 2 ^ (count + offset) ≤ 2 ^ 32 = pow-le-pow_right {n = 2} (omega arith) {i = count + offset} {j = 32} (omega arith) in
+    omega arith

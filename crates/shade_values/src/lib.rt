@@ -1,6 +1,7 @@
 //! Types, their layout, values, and the operations on them.
 #![tactic(auto)]
 
+mod bits;
 mod entry;
 mod layouts;
 pub mod name;
