@@ -1,4 +1,5 @@
 pub mod Lists
+pub mod DotLaws
 pub mod LayoutLaws
 pub mod NumberLaws
 pub mod ShapeLaws

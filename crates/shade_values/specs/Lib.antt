@@ -1,7 +1,9 @@
+pub mod Apply
 pub mod Kept
 pub mod Layouts
 pub mod Numbers
 pub mod Operations
+pub mod Parts
 pub mod Shape
 pub mod Sound
 pub mod Table

@@ -1,5 +1,5 @@
 -- The whole numbers of the scalar types.
-use Rattle.std.specs.Prelude.{ℕ, ◌-◌, ◌^◌, ◌%◌, ℤ, pos, negsuc, Bool, ◌==◌, nat_le, min, unsigned_abs, if◌then◌else◌}
+use Rattle.std.specs.Prelude.{ℕ, ◌-◌, ◌^◌, ℤ, pos, negsuc, Bool, min, unsigned_abs}
 use Rattle.std.specs.Int.{w32, w64, int_rem_euclid, int_wrap, from_bool}
 use Rattle.shade_values.specs.declared.types.Scalar.{Scalar}
 use Rattle.shade_values.specs.declared.types.Scalar.TheVariants as scalar

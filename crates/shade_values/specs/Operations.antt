@@ -1,6 +1,6 @@
 -- The operation table: what each operator and built-in function makes of its arguments. (WGSL, "Operators and Expressions" and
 -- "Built-in Functions".) An operation that takes no such arguments is given a value all the same, which no caller sees.
-use Rattle.std.specs.Prelude.{ℕ, ◌+◌, ◌-◌, ◌*◌, ◌/◌, ◌%◌, ◌^◌, min, ℤ, pos, negsuc, neg_ℤ, ◌+ℤ◌, ◌-ℤ◌, ◌*ℤ◌, Bool, true, false, not, ◌&&◌, ◌||◌, ◌==◌, nat_lt, nat_le, unsigned_abs, count_ones, int_div, int_rem, int_lt, int_le, if◌then◌else◌}
+use Rattle.std.specs.Prelude.{ℕ, ◌+◌, ◌-◌, ◌*◌, ◌/◌, ◌%◌, ◌^◌, min, ℤ, pos, negsuc, neg_ℤ, ◌+ℤ◌, ◌-ℤ◌, ◌*ℤ◌, Bool, not, ◌&&◌, ◌||◌, ◌==◌, nat_lt, unsigned_abs, count_ones, int_div, int_rem, int_lt, int_le, if◌then◌else◌}
 use Rattle.std.specs.Int.{w32, w64, int_min, int_max, int_signum, int_bit_and, int_bit_or, int_bit_xor, int_bit_not, int_shl, int_shr, leading_zeros, trailing_zeros, reverse_bits, bit_not}
 use Rattle.std.specs.Ordering.{int_eq}
 use Rattle.shade_values.specs.declared.types.Scalar.{Scalar}

@@ -32,7 +32,8 @@ pub(crate) fn unary(op: Op, leaf: Leaf) -> Leaf
     }
 }
 
-fn converted(to: Scalar, leaf: Leaf) -> Leaf
+/// The leaf in another scalar.
+pub(crate) fn converted(to: Scalar, leaf: Leaf) -> Leaf
     ensures { result ≡ converted to leaf }
 {
     match to {

@@ -57,13 +57,20 @@ pub(crate) fn amount(scalar: Scalar, number: i64) -> u32
     }
 }
 
+/// The index below `length` that is nearest to a number; 0 where there is none.
+pub(crate) fn nearest(number: i64, length: usize) -> usize
+    ensures { result ≡ nearest number length }
+{
+    if number < 0 {
+        return 0;
+    }
+    (number as usize).min(length.saturating_sub(1))
+}
+
 /// The index below `length` that is nearest to `index`. Takes no memory.
 pub fn clamp(index: Leaf, length: u32) -> u32
     requires { 0 < length }
     ensures { result ≡ nearest index.number length }
 {
-    if index.number < 0 {
-        return 0;
-    }
-    index.number.min(i64::from(length) - 1) as u32
+    nearest(index.number, length as usize) as u32
 }

@@ -1,4 +1,3 @@
-use Rattle.std.proofs.Common.{arith}
 use Rattle.shade_values.proofs.NumberLaws.{placed_small}
 use Rattle.shade_values.proofs.bits.placed.Goals as goal
 

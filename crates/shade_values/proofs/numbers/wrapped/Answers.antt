@@ -1,4 +1,4 @@
-use Rattle.std.proofs.Common.{◌≡◌, rules, ap, ◌∙◌, FitsSigned, w32, w64}
+use Rattle.std.proofs.Common.{rules, ap, ◌∙◌, FitsSigned, w32, w64}
 use Rattle.std.specs.Int.{int_wrap, cast_signed}
 use Rattle.std.proofs.lemmas.Int.{to_z-of_z}
 use Rattle.shade_values.specs.Numbers.{word}

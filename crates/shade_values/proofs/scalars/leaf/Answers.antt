@@ -1,4 +1,4 @@
-use Rattle.std.proofs.Common.{rules, ◌≡◌, ◌∙◌, FitsSigned, w64}
+use Rattle.std.proofs.Common.{rules, ◌∙◌, FitsSigned, w64}
 use Rattle.shade_values.proofs.NumberLaws.{leaf_is, wrapped-add, wrapped-sub, wrapped-mul}
 use Rattle.shade_values.proofs.scalars.leaf.Goals as goal
 
