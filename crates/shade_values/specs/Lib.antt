@@ -7,3 +7,5 @@ pub mod Parts
 pub mod Shape
 pub mod Sound
 pub mod Table
+pub mod Takes
+pub mod Typed
