@@ -57,6 +57,7 @@ impl FnGraph {
     /// The number of a node, where it stands in the graph. Takes no memory.
     pub fn number_of(&self, node: Node) -> Option<u32>
         ensures some { IfSome result (λ number. slice_get self.now.nodes number ≡ Some node) }
+        ensures within { IfSome result (λ number. number < length self.now.nodes) }
         ensures none { IfNone result ((number : ℕ) → slice_get self.now.nodes number ≡ Some node → ⊥) }
     {
         let number = number_of(&self.nodes, node)?;

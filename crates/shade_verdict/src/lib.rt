@@ -10,3 +10,6 @@ mod violation;
 pub use law::violations_are_one_list;
 pub use verdict::violations_of;
 pub use violation::{NodePath, PathStep, Violation};
+
+#[cfg(test)]
+mod tests;
