@@ -1,11 +1,11 @@
 -- A table stays sound, and keeps what it says of each type, when a type or a struct is added.
 use Rattle.std.proofs.Common.{◌≡◌, refl, sym, ap, subst, ◌∙◌, ℕ, zero, suc, ◌<◌, ◌≤◌, inl, inr, List, [], ◌∷◌, ◌++◌, length, map, Some, slice_get, get_or, Ok, Err, arith, length-append}
-use Rattle.std.specs.Prelude.{Contains, Result, IfOk, OnOk, IsErrAnd}
+use Rattle.std.specs.Prelude.{Contains, Result, IfOk, OnOk, OnErr, IsErrAnd}
 use Rattle.std.proofs.Math.ListN.{get_or-map as get_or-map_same}
 use Rattle.std.proofs.lemmas.Bool.Decides.{nat_tests}
 use Rattle.std.proofs.lemmas.List.{map-append, get_or_at}
 use Rattle.std.proofs.lemmas.List.Elements.{Contains-append_left, Contains-push}
-use Rattle.std.proofs.lemmas.Option.{slice_get-get_or}
+use Rattle.std.proofs.lemmas.Option.{slice_get-get_or, slice_get_within}
 use Rattle.std.proofs.Math.Nat.{eq-or-lt_of_le}
 use Rattle.std.specs.List.{list_all}
 use Rattle.shade_values.specs.declared.types.ShadeType.{ShadeType}
@@ -18,9 +18,9 @@ use Rattle.shade_values.specs.declared.entry.Entry.{Entry}
 use Rattle.shade_values.specs.Table.{Table, StructView, members_at, no_struct, with_type, with_struct}
 use Rattle.shade_values.specs.Shape.{pointer, spell, shapes}
 use Rattle.shade_values.specs.Layouts.{layout, is_loadable, bytes, greatest_size, struct_layout, IsLarge}
-use Rattle.shade_values.specs.Sound.{IsSound, IsOver, IsOf, AreKnown}
+use Rattle.shade_values.specs.Sound.{IsSound, IsOver, IsOf, AreKnown, Grows}
 use Rattle.shade_values.specs.Kept.{IsKept, table_of, types_of, layouts_of, loads_of, layout_by, loads_by, laid, too_large, layout_in, load_in, struct_shape}
-use Rattle.shade_values.proofs.Lists.{push_cases, contained, last}
+use Rattle.shade_values.proofs.Lists.{push_cases, contained, last, stays}
 use Rattle.shade_values.proofs.ShapeLaws.{shapes-with_struct, layout-structure, are_loadable-members, over_more, shapes-with_type, layout-spell, is_loadable-spell, shape_is}
 
 -- no type but the new one is new
@@ -226,3 +226,23 @@ module _ (entries : List Entry) (structs : List StructView) (t : Table) (ms : Li
 
   pub struct_not_large : (l : Layout) → laid (struct_layout (map (λ m. layout_in (layouts_of entries) m.1) ms)) ≡ Ok l → ¬ IsLarge (struct_shape t ms)
   struct_not_large l e = subst (λ x. ¬ IsLarge (struct_shape x ms)) view_is (struct_taken entries structs ms l kept e).1
+
+pub grows_not : (t : Table) → Grows t t
+grows_not t = record { stay = λ n ty e. e; longer = omega arith; by_one = omega arith; structs = refl }
+
+grows_by : (t : Table) (ty : ShadeType) → Grows t (with_type t ty)
+grows_by t ty = record {
+  stay = λ n x e. stays t.types ty x n e;
+  longer = omega (arith, length-append t.types (ty ∷ []));
+  by_one = omega (arith, length-append t.types (ty ∷ []));
+  structs = refl;
+}
+
+pub grows : (r : Result TypeId TableFault) (old new : Table) (ty : ShadeType) → OnOk r (new ≡ with_type old ty) → OnErr r (new ≡ old) → Grows old new
+grows (Ok id) old new ty added refused = subst (Grows old) (sym added) (grows_by old ty)
+grows (Err fault) old new ty added refused = subst (Grows old) (sym refused) (grows_not old)
+
+-- what is found is there
+pub found_within : (r : Result TypeId TableFault) (t : Table) (ty : ShadeType) → IfOk r (λ id. slice_get t.types id.0 ≡ Some ty) → IfOk r (λ id. id.0 < length t.types)
+found_within (Ok id) t ty h = slice_get_within t.types id.0 ty h
+found_within (Err fault) t ty h = tt

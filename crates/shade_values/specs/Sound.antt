@@ -1,5 +1,5 @@
 -- What holds of each table of types.
-use Rattle.std.specs.Prelude.{◌≡◌, ℕ, ◌<◌, ◌≤◌, List, length, Some, slice_get, All, Contains}
+use Rattle.std.specs.Prelude.{◌≡◌, ℕ, ◌+◌, ◌<◌, ◌≤◌, List, length, Some, slice_get, All, Contains}
 use Rattle.shade_values.specs.declared.types.ShadeType.{ShadeType}
 use Rattle.shade_values.specs.declared.types.ShadeType.TheVariants.{Plain, Vector, Array, RuntimeArray, Atomic, Struct, Exchanged, Pointer}
 use Rattle.shade_values.specs.declared.types.TypeId.{TypeId}
@@ -33,3 +33,10 @@ pub record IsSound (t : Table) : Type 0 where
   -- each struct is a type
   pub stand : (k : ℕ) → k < length t.structs → Contains t.types (Struct k)
   pub fewer : length t.structs ≤ length t.types
+
+-- a table with at most one type more: what it had stays as it is
+pub record Grows (old new : Table) : Type 0 where
+  pub stay : (n : ℕ) (ty : ShadeType) → slice_get old.types n ≡ Some ty → slice_get new.types n ≡ Some ty
+  pub longer : length old.types ≤ length new.types
+  pub by_one : length new.types ≤ length old.types + 1
+  pub structs : new.structs ≡ old.structs

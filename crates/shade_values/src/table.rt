@@ -5,7 +5,7 @@ ghost use Rattle.shade_values.specs.Table.{with_type, with_struct, no_types, mem
 ghost use Rattle.shade_values.specs.Shape.{shapes, shape_of, spell, member_shapes, structure};
 ghost use Rattle.shade_values.specs.Layouts.{layout, is_loadable, greatest_size, IsLarge};
 ghost use Rattle.shade_values.specs.Kept.{too_large, struct_shape};
-ghost use Rattle.shade_values.specs.Sound.{IsSound, IsOf, AreKnown};
+ghost use Rattle.shade_values.specs.Sound.{IsSound, IsOf, AreKnown, Grows};
 
 use crate::entry::{Entry, Struct};
 use crate::name::Name;
@@ -61,8 +61,10 @@ impl TypeTable {
         requires room { length self.old.types < 2 ^ 32 - 1 }
         requires parts { IsOf self.old ty }
         ensures id { IfOk result (λ id. slice_get self.new.types id.0 ≡ Some ty) }
+        ensures within { IfOk result (λ id. id.0 < length self.new.types) }
         ensures known { Contains self.old.types ty → IsOk result × (self.new ≡ self.old) }
         ensures new { ¬ Contains self.old.types ty → OnOk result (self.new ≡ with_type self.old ty) }
+        ensures grows { Grows self.old self.new }
         ensures large { IsLarge (spell self.old.structs (shapes self.old) ty) → result ≡ too_large (spell self.old.structs (shapes self.old) ty) }
         ensures small { ¬ IsLarge (spell self.old.structs (shapes self.old) ty) → IfErr result (λ fault. fault ≡ TableFault.NoMemory) }
         ensures refused { OnErr result (self.new ≡ self.old) }
