@@ -11,6 +11,8 @@ mod operations;
 mod parts;
 mod scalars;
 pub mod table;
+#[cfg(test)]
+mod tests;
 pub mod touch;
 pub mod types;
 pub mod value;
