@@ -19,7 +19,8 @@ pub struct FileShelf<R: Files + Drop> {
 impl<R: Files + Drop> FileShelf<R> {
     /// A shelf of these files. No read has failed yet. This takes no memory.
     pub fn new(alloc: Global, files: R) -> FileShelf<R>
-        ensures { result.failed.items ≡ [] }
+        ensures files { result.files ≡ files }
+        ensures failed { result.failed.items ≡ [] }
     {
         FileShelf {
             files,
@@ -75,6 +76,7 @@ impl<R: Files + Drop> Shelf for FileShelf<R> {
     fn read(&mut self, alloc: Global, name: &str, limit: usize) -> Result<Vec<u8>, ShelfRefusal>
         requires { limit < usize.MAX }
         ensures len { IfOk result (λ bytes. vec_len bytes ≤ limit + 1) }
+        ensures kept { IsErrOf result NoMemory → map (λ name. string_bytes name) self.new.failed.items ≡ map (λ name. string_bytes name) self.old.failed.items }
         ensures cause { IsFailedBy name.now (map (λ name. string_bytes name) self.old.failed.items) (map (λ name. string_bytes name) self.new.failed.items) result }
         ensures added { IsErrOf result ReadFailed → map (λ name. string_bytes name) self.new.failed.items ≡ map (λ name. string_bytes name) self.old.failed.items ++ name.now ∷ [] }
         ensures ok { OnOk result (self.new.failed.items ≡ self.old.failed.items) }

@@ -1,12 +1,14 @@
 -- Places and tokens of a text.
-use Rattle.std.proofs.Common.{◌≡◌, refl, sym, ap, ◌∙◌, subst, ℕ, zero, suc, ◌+◌, ◌-◌, ◌≤◌, Bool, true, false, List, [], ◌∷◌, ◌++◌, length, take, drop, length-drop, arith, append_assoc, cond}
+use Rattle.std.proofs.Common.{◌≡◌, refl, sym, ap, ◌∙◌, subst, ℕ, zero, suc, ◌+◌, ◌-◌, ◌≤◌, Bool, true, false, List, [], ◌∷◌, ◌++◌, length, take, drop, length-drop, arith, append_assoc, cond, Some, None, slice_get}
 use Rattle.std.proofs.lemmas.List.{take_all}
 use Rattle.shade_base.specs.declared.place.Place.{Place}
 use Rattle.shade_first.specs.declared.token.Kind.{Kind}
+use Rattle.shade_first.specs.declared.token.Kind.TheVariants as kind
 use Rattle.shade_first.specs.declared.token.Token.{Token}
 use Rattle.shade_first.specs.declared.lex.Front.TheVariants as front
 use Rattle.shade_first.specs.Lines.{ends_break, line_at, column_at, place_of}
-use Rattle.shade_first.specs.Tokens.{front_of, size_of, Lexes, stops, blank, token}
+use Rattle.shade_first.specs.Tokens.{IsWord, AreWords, front_of, size_of, Lexes, stops, blank, token}
+use Rattle.shade_first.proofs.Printing.{word_again}
 
 pub line_small : (text : List ℕ) (n : ℕ) → line_at text n ≤ n + 1
 line_small text zero = omega arith
@@ -76,3 +78,18 @@ lexes_once text at ts us stop other (token k p {ts = vs} {stop = s} is l) (token
       tokens = ap (λ (x : Kind). let t : Token = record { kind = x; place = place_of text k } in t ∷ vs) same ∙ ap (λ xs. let t : Token = record { kind = q; place = place_of text k } in t ∷ xs) rest.tokens;
       ends = rest.ends;
     }
+
+-- words are words
+pub are_words : (text : List ℕ) (at : ℕ) (ts : List Token) (stop : ℕ) → Lexes text at ts stop → AreWords ts
+are_words text at ts stop l = record { words = each text at ts stop l }
+  where
+    each : (text : List ℕ) (at : ℕ) (ts : List Token) (stop : ℕ) → Lexes text at ts stop → (i : ℕ) (w : List ℕ) (p : Place) → slice_get ts i ≡ Some (record { kind = kind.Word w; place = p }) → IsWord w
+    each text at ts stop (stops k is) i w p e = let t : Token = record { kind = kind.Word w; place = p } in let bad : None ≡ Some t = e in absurd (cc)
+    each text at ts stop (blank k is l) i w p e = each text (k + 1) ts stop l i w p e
+    each text at ts stop (token k q {ts = us} is l) zero w p e =
+        let t : Token = record { kind = q; place = place_of text k } in
+        let u : Token = record { kind = kind.Word w; place = p } in
+        let both : Some t ≡ Some u = e in
+        let same : t ≡ u = cc in
+        word_again (drop k text) w (is ∙ ap (λ (x : Token). front.Token x.kind) same)
+    each text at ts stop (token k q {ts = us} is l) (suc i) w p e = each text (k + size_of q) us stop l i w p e

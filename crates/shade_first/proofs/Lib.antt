@@ -1,3 +1,4 @@
+pub mod Again
 pub mod Blocks
 pub mod Counts
 pub mod Errors
@@ -5,6 +6,8 @@ pub mod LexLaws
 pub mod Lowered
 pub mod Numbers
 pub mod Once
+pub mod Printing
+pub mod Prints
 pub mod Shaders
 pub mod Stages
 pub mod TextLaws

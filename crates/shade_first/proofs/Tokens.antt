@@ -13,6 +13,7 @@ use Rattle.shade_first.specs.Reads.{Near, Reads, Fails}
 use Rattle.shade_first.specs.Form.{token_of, Placed, Fixed, done, more, Sequence, Lanes, Limit, Name}
 use Rattle.shade_first.specs.Reserved.{is_reserved}
 use Rattle.shade_first.specs.Steps.{kind_of}
+use Rattle.shade_first.specs.Tokens.{IsWord}
 use Rattle.shade_first.proofs.Stages.{After, Ends, Closes, Stage, near_get, change, phrase, phrase_fails, finish, single, single_fails}
 
 pub some_place : Place
@@ -94,12 +95,12 @@ limit_fails tokens from h isnt = single_fails Limit tokens from h limit_closes (
 
 -- declared names
 pub name_closes : Closes Name
-name_closes = record { tree = (97 ∷ [], some_place); more = token_of (kind.Word (97 ∷ [])) some_place ∷ []; closed = λ w. record { is = refl; free = refl } }
+name_closes = record { tree = (97 ∷ [], some_place); more = token_of (kind.Word (97 ∷ [])) some_place ∷ []; closed = λ w. record { is = refl; word = refl; free = refl } }
 
-pub name_reads : (tokens : List Token) (from : ℕ) (text name : List ℕ) (p : Place) → slice_get tokens from ≡ Some (token_of (kind.Word text) p) → is_reserved text ≡ false → name ≡ text → Reads Name tokens from (name, p) (from + 1)
-name_reads tokens from text name p is free same =
+pub name_reads : (tokens : List Token) (from : ℕ) (text name : List ℕ) (p : Place) → slice_get tokens from ≡ Some (token_of (kind.Word text) p) → IsWord text → is_reserved text ≡ false → name ≡ text → Reads Name tokens from (name, p) (from + 1)
+name_reads tokens from text name p is word free same =
     single Name tokens from (name, p) (token_of (kind.Word text) p) is
-    (λ w. record { is = ap (λ (x : List ℕ). token_of (kind.Word x) p ∷ w) (sym same); free = ap is_reserved same ∙ free })
+    (λ w. record { is = ap (λ (x : List ℕ). token_of (kind.Word x) p ∷ w) (sym same); word = subst IsWord (sym same) word; free = ap is_reserved same ∙ free })
     only
   where
     only : (s : List ℕ × Place) (ys w : List Token) → Name s (token_of (kind.Word text) p ∷ ys) w → (s ≡ (name, p)) × (ys ≡ w)

@@ -21,6 +21,7 @@ use Rattle.shade_first.specs.declared.tree.FirstItem.{FirstItem}
 use Rattle.shade_first.specs.declared.tree.FirstItem.TheVariants as item
 use Rattle.shade_first.specs.declared.tree.FirstShader.{FirstShader}
 use Rattle.shade_first.specs.Reserved.{is_reserved}
+use Rattle.shade_first.specs.Tokens.{IsWord}
 
 abbrev pub token_of : Kind → Place → Token
 token_of k p = record { kind = k; place = p }
@@ -50,9 +51,10 @@ pub record Limit (n : ℕ) (ts rest : List Token) : Type 0 where
   pub is : ts ≡ token_of (kind.Number (decimal n ++ codes "u")) place ∷ rest
   pub most : n < 2 ^ 32
 
--- a declared name
+-- a declared name, which is a word
 pub record Declared (name : List ℕ) (p : Place) (ts rest : List Token) : Type 0 where
   pub is : ts ≡ token_of (kind.Word name) p ∷ rest
+  pub word : IsWord name
   pub free : is_reserved name ≡ false
 
 abbrev pub Name : List ℕ × Place → List Token → List Token → Type 0

@@ -1,3 +1,4 @@
+pub mod Continuations
 pub mod FirstForm
 pub mod Form
 pub mod Laws

@@ -3,8 +3,9 @@
 -- A word is a letter and then letters, digits and `_`; a number is digits and then an optional `u`; each is as long as
 -- it can be. The marks are single bytes. Blanks, the bytes 9 to 13 and 32, stand between tokens. No other byte begins
 -- a token.
-use Rattle.std.specs.Prelude.{◌≡◌, ℕ, ◌+◌, ◌<◌, ◌≤◌, ◌==◌, ◌&&◌, ◌||◌, nat_le, Bool, List, [], ◌∷◌, length, take, drop, slice_index, if◌then◌else◌}
+use Rattle.std.specs.Prelude.{◌≡◌, ℕ, ◌+◌, ◌<◌, ◌≤◌, ◌==◌, ◌&&◌, ◌||◌, nat_le, Bool, List, [], ◌∷◌, length, take, drop, slice_index, if◌then◌else◌, Some, slice_get}
 use Rattle.std.specs.List.{prefix_len}
+use Rattle.shade_base.specs.declared.place.Place.{Place}
 use Rattle.shade_first.specs.declared.token.Mark.TheVariants.{At, Open, Close, OpenBrace, CloseBrace, Colon, Semicolon, Less}
 use Rattle.shade_first.specs.declared.token.Kind.{Kind}
 use Rattle.shade_first.specs.declared.token.Kind.TheVariants as kind
@@ -50,6 +51,10 @@ front_of (b ∷ bs) =
     else if is_digit b then front.Token (kind.Number (take (number_size (b ∷ bs)) (b ∷ bs)))
     else mark_front b
 
+-- a word, and nothing else
+abbrev pub IsWord : List ℕ → Type 0
+IsWord w = front_of w ≡ front.Token (kind.Word w)
+
 -- how many bytes a token of this kind has
 abbrev pub size_of : Kind → ℕ
 size_of (kind.Word text) = length text
@@ -68,3 +73,7 @@ pub data Lexes (text : List ℕ) : ℕ → List Token → ℕ → Type 0 where
   stops : (at : ℕ) → front_of (drop at text) ≡ front.Nothing → Lexes text at [] at
   blank : (at : ℕ) {ts : List Token} {stop : ℕ} → front_of (drop at text) ≡ front.Blank → Lexes text (at + 1) ts stop → Lexes text at ts stop
   token : (at : ℕ) (k : Kind) {ts : List Token} {stop : ℕ} → front_of (drop at text) ≡ front.Token k → Lexes text (at + size_of k) ts stop → Lexes text at (record { kind = k; place = place_of text at } ∷ ts) stop
+
+-- the words of these tokens are words
+pub record AreWords (tokens : List Token) : Type 0 where
+  pub words : (at : ℕ) (w : List ℕ) (p : Place) → slice_get tokens at ≡ Some (record { kind = kind.Word w; place = p }) → IsWord w

@@ -1,5 +1,6 @@
 // Laws of texts of the first form.
 
+ghost use Rattle.shade_first.specs.Continuations.{BeginningsAreTexts};
 ghost use Rattle.shade_first.specs.Laws.{OneModule, OnePlace, NeverBoth, FewStatements};
 
 /// A text stands for one module at most.
@@ -20,4 +21,9 @@ pub fn never_both()
 /// A module has fewer statements, its last Return aside, than the text that stands for it has bytes.
 pub fn few_statements()
     ensures { FewStatements }
+{}
+
+/// Tokens with which some shader begins are those with which some text of the form begins, its number of bytes left free.
+pub fn beginnings_are_texts()
+    ensures { BeginningsAreTexts }
 {}

@@ -22,7 +22,7 @@ use crate::parse::shader;
 use crate::phrase::SyntaxFault;
 use crate::token::Token;
 use crate::tree::FirstShader;
-pub use laws::{few_statements, never_both, one_module, one_place};
+pub use laws::{beginnings_are_texts, few_statements, never_both, one_module, one_place};
 use shade_core::CoreModule;
 use std::alloc::Global;
 
@@ -83,3 +83,6 @@ fn offset_at(tokens: &[Token], at: usize, stop: u32) -> u32
         None => stop,
     }
 }
+
+#[cfg(test)]
+mod tests;

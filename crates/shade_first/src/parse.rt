@@ -3,6 +3,7 @@
 ghost use Rattle.std.specs.Prelude.{◌≡◌, ◌+◌, ◌<◌, ◌≤◌, ◌++◌, ◌∷◌, [], IfOk, MatchResult, length};
 ghost use Rattle.shade_first.specs.Form.{Item, Body, Shader};
 ghost use Rattle.shade_first.specs.Reads.{Reads, Faults};
+ghost use Rattle.shade_first.specs.Tokens.{AreWords};
 
 use crate::phrase::{SyntaxFault, declared, fixed, lanes, limit, placed, step_at};
 use crate::step::Step;
@@ -21,7 +22,8 @@ pub fn shader(
     tokens: &[Token],
     from: usize,
 ) -> Result<(FirstShader, usize), SyntaxFault>
-    requires { from ≤ length tokens.now }
+    requires within { from ≤ length tokens.now }
+    requires words { AreWords tokens.now }
     ensures { MatchResult result (λ p. Reads Shader tokens.now from p.0 p.1) (λ f. Faults Shader tokens.now from f) }
 {
     let at = fixed(

@@ -6,6 +6,7 @@ ghost use Rattle.shade_first.specs.Form.{token_of, Placed, Sequence, Lanes, Limi
 ghost use Rattle.shade_first.specs.Form as form;
 ghost use Rattle.shade_first.specs.Reads.{Reads, Faults};
 ghost use Rattle.shade_first.specs.Steps.{kind_of};
+ghost use Rattle.shade_first.specs.Tokens.{AreWords};
 
 use crate::number::{lane_count, unsigned_value};
 use crate::reserved::is_reserved;
@@ -116,7 +117,8 @@ pub fn limit(tokens: &[Token], from: usize) -> Result<(u32, usize), SyntaxFault>
 
 /// Reads a declared name.
 pub fn declared(tokens: &[Token], from: usize) -> Result<(Name, Place, usize), SyntaxFault>
-    requires { from ≤ length tokens.now }
+    requires within { from ≤ length tokens.now }
+    requires words { AreWords tokens.now }
     ensures { MatchResult result (λ p. Reads form.Name tokens.now from (p.0, p.1) p.2) (λ f. Faults form.Name tokens.now from f) }
 {
     let Some((word, place)) = word_at(tokens, from) else {

@@ -25,6 +25,7 @@ pub struct FnGraph {
 
 impl Model for FnGraph {
     ghost use Rattle.std.specs.Prelude.{◌≡◌, ◌<◌, ◌^◌, length};
+    ghost use Rattle.shade_reach.specs.Digraph.{JoinsNodes};
     ghost use Rattle.shade_graph.specs.Order.{IsAscending};
     ghost use Rattle.shade_graph.specs.Numbered.{FunctionGraph};
 
@@ -32,7 +33,7 @@ impl Model for FnGraph {
 
     ghost view = { λ g. record { nodes = g.nodes.items; edges = g.graph.edges } };
 
-    ghost invariant = { λ g. (g.graph.nodes ≡ length g.nodes.items) × (length g.nodes.items < 2 ^ 32) × IsAscending g.nodes.items };
+    ghost invariant = { λ g. (g.graph.nodes ≡ length g.nodes.items) × (length g.nodes.items < 2 ^ 32) × IsAscending g.nodes.items × JoinsNodes (length g.nodes.items) g.graph.edges };
 }
 
 impl FnGraph {
@@ -47,7 +48,8 @@ impl FnGraph {
 
     /// The edges, by the numbers of their nodes. Takes no memory.
     pub fn graph(&self) -> &Graph
-        ensures { result.now ≡ record { nodes = length self.now.nodes; edges = self.now.edges } }
+        ensures graph { result.now ≡ record { nodes = length self.now.nodes; edges = self.now.edges } }
+        ensures within { JoinsNodes (length self.now.nodes) self.now.edges }
     {
         &self.graph
     }
@@ -55,6 +57,7 @@ impl FnGraph {
     /// The number of a node, where it stands in the graph. Takes no memory.
     pub fn number_of(&self, node: Node) -> Option<u32>
         ensures some { IfSome result (λ number. slice_get self.now.nodes number ≡ Some node) }
+        ensures within { IfSome result (λ number. number < length self.now.nodes) }
         ensures none { IfNone result ((number : ℕ) → slice_get self.now.nodes number ≡ Some node → ⊥) }
     {
         let number = number_of(&self.nodes, node)?;

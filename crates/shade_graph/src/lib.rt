@@ -10,3 +10,6 @@ mod order;
 
 pub use graph::{FnGraph, graph_of};
 pub use node::{Node, Tag, Via};
+
+#[cfg(test)]
+mod tests;

@@ -1,1 +1,5 @@
 pub mod OneList
+pub mod NumberPaths
+pub mod Sites
+pub mod FoundLaws
+pub mod TargetLaws

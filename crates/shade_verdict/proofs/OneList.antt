@@ -1,16 +1,15 @@
 -- The violations of a module are one list.
-use Rattle.std.proofs.Common.{◌≡◌, refl, sym, ◌∙◌, ap, ap₂, subst, ℕ, ◌<◌, ◌≤◌, ◌⊎◌, inl, inr, arith, List, [], ◌∷◌, map, length, Option, Some, slice_get}
+use Rattle.std.proofs.Common.{◌≡◌, refl, sym, ◌∙◌, ap, ap₂, subst, ℕ, ◌<◌, ◌⊎◌, inl, inr, arith, List, [], ◌∷◌, map, length, Option, Some, slice_get}
 use Rattle.std.proofs.Math.Nat.{le_antisymm}
 use Rattle.shade_base.specs.declared.severity.Severity.{Severity}
 use Rattle.shade_core.specs.declared.module.CoreFunction.{CoreFunction}
 use Rattle.shade_graph.specs.declared.node.Node.{Node}
 use Rattle.shade_graph.specs.declared.node.Node.TheVariants.{Required, NonUniform}
-use Rattle.shade_graph.specs.Graph.{Edge, Gives, Among, here, later}
+use Rattle.shade_graph.specs.Graph.{Edge, Among, here, later}
 use Rattle.shade_graph.specs.Order.{NodeLess, severity_rank, rank, first_key, second_key}
-use Rattle.shade_reach.specs.Paths.{IsPath, Walk, IsLeast, IsLeastPath, InOrder, NotAfter}
-use Rattle.shade_verdict.specs.declared.violation.PathStep.{PathStep}
+use Rattle.shade_reach.specs.Paths.{IsPath, IsLeastPath, InOrder, NotAfter}
 use Rattle.shade_verdict.specs.declared.violation.Violation.{Violation}
-use Rattle.shade_verdict.specs.Violations.{IsViolation, IsSite, Shows, plain_step, second_node, ComesBefore, Ascends, AreViolations}
+use Rattle.shade_verdict.specs.Violations.{IsSite, Shows, plain_step, second_node, ComesBefore, Ascends, AreViolations}
 use Rattle.shade_verdict.specs.Laws.{OneVerdict}
 
 -- orders by one number and then by something else

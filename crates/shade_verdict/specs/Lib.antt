@@ -1,3 +1,4 @@
 pub mod Clean
 pub mod Laws
 pub mod Violations
+pub mod Found

@@ -4,7 +4,12 @@
 #![tactic(auto)]
 
 mod law;
+mod verdict;
 mod violation;
 
 pub use law::violations_are_one_list;
+pub use verdict::violations_of;
 pub use violation::{NodePath, PathStep, Violation};
+
+#[cfg(test)]
+mod tests;

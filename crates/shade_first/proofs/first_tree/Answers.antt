@@ -1,8 +1,10 @@
-use Rattle.std.proofs.Common.{◌≡◌, subst, List, arith, MatchOption, slice_get}
+use Rattle.std.proofs.Common.{sym, ◌≡◌, subst, List, arith, MatchOption, slice_get}
 use Rattle.shade_first.specs.declared.token.Token.{Token}
 use Rattle.shade_first.specs.declared.phrase.SyntaxFault.{SyntaxFault}
 use Rattle.shade_first.specs.Form.{Shader}
 use Rattle.shade_first.specs.Reads.{Reads, Fails, Faults}
+use Rattle.shade_first.specs.Tokens.{AreWords}
+use Rattle.shade_first.proofs.LexLaws.{are_words}
 use Rattle.shade_first.proofs.Texts.{text_fails, text_longer, text_stops, text_spells}
 use Rattle.shade_first.proofs.first_tree.Goals as goal
 
@@ -28,3 +30,6 @@ returns-in-Err-Unexpected c =
     let fails = subst (λ (ts : List Token). Fails Shader ts 0 c.in-Err-Unexpected.at) c.as_slice.ensures fault in
     text_fails c.args.text.now c.in-Ok.field-0.tokens c.in-Ok.field-0.stop (omega arith) c.in-Ok.ensures.lexed c.in-Err-Unexpected.at c.offset_at-in-Err-Unexpected.result fails
     (subst (λ (ts : List Token). MatchOption (slice_get ts c.in-Err-Unexpected.at) (c.offset_at-in-Err-Unexpected.result ≡ c.in-Ok.field-0.stop) (λ t. c.offset_at-in-Err-Unexpected.result ≡ t.place.offset)) c.as_slice-in-Err-Unexpected.ensures c.offset_at-in-Err-Unexpected.ensures)
+
+pub shader-requires-clause-words : goal.shader-requires-clause-words
+shader-requires-clause-words c = subst (λ (ts : List Token). AreWords ts) (sym c.as_slice.ensures) (are_words c.args.text.now 0 c.in-Ok.field-0.tokens c.in-Ok.field-0.stop c.in-Ok.ensures.lexed)

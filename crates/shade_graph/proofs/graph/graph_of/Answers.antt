@@ -1,4 +1,4 @@
-use Rattle.std.proofs.Common.{ℕ, List, ◌++◌, map, sym, subst, ◌∙◌}
+use Rattle.std.proofs.Common.{◌≡◌, ℕ, ◌<◌, arith, ap, length, vec_len, List, ◌++◌, map, sym, subst, ◌∙◌}
 use Rattle.shade_reach.specs.Digraph.{JoinsNodes}
 use Rattle.shade_graph.specs.declared.node.Node.{Node}
 use Rattle.shade_graph.specs.declared.gather.GivenEdge.{GivenEdge}
@@ -12,6 +12,16 @@ numbered_edges-requires-clause-ascending c = subst (λ (ns : List Node). IsAscen
 
 pub new-requires : goal.new-requires
 new-requires c = subst (λ (n : ℕ). JoinsNodes n c.in_ok-edges.edges.items) (c.deref.ensures.len ∙ sym c.len-3.ensures) c.in_ok-edges.ensures.within
+
+pub invariant_of-result : goal.invariant_of-result
+invariant_of-result c =
+    let count : vec_len c.in_order-nodes.result ≡ length c.in_order-nodes.result.items = sym c.deref.ensures.len ∙ ap length c.deref.ensures.value in
+    let short : length c.in_order-nodes.result.items < 4294967296 = omega (arith, c.if-len-2.false, c.len-2.ensures, count) in (
+      c.in_ok-graph.ensures.nodes ∙ (c.len-3.ensures ∙ count),
+      short,
+      c.in_order-nodes.ensures.ascending,
+      λ from to e. subst (λ (ns : List Node). JoinsNodes (length ns) c.in_ok-edges.edges.items) c.deref.ensures.value c.in_ok-edges.ensures.within from to ((c.in_ok-graph.ensures.edges from to).1 e),
+    )
 
 pub returns : goal.returns
 returns c =

@@ -1,0 +1,15 @@
+// A law of the answer.
+ghost use Rattle.shade_top.specs.Laws.{OneAnswer};
+
+use shade_first::{never_both, one_module, one_place};
+use shade_verdict::violations_are_one_list;
+
+/// The status and the text of the answer are functions of the words and of what was read.
+pub fn answers_are_one()
+    ensures { OneAnswer }
+{
+    one_module();
+    one_place();
+    never_both();
+    violations_are_one_list();
+}

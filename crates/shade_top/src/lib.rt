@@ -1,0 +1,15 @@
+//! The top call: all that the program does with its words.
+//!
+//! What it answers stands in `specs/Answer.antt`; how a call reads and writes, in `specs/Serves.antt`.
+#![tactic(auto)]
+
+mod law;
+mod report;
+mod top_call;
+
+pub use law::answers_are_one;
+pub use shade_first::{FirstFault, first_form};
+pub use top_call::serve;
+
+#[cfg(test)]
+mod tests;

@@ -1,0 +1,6 @@
+pub mod Lists
+pub mod DotLaws
+pub mod LayoutLaws
+pub mod NumberLaws
+pub mod ShapeLaws
+pub mod SoundLaws

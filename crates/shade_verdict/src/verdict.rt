@@ -1,0 +1,131 @@
+// The violations of a module.
+ghost use Rattle.std.specs.Prelude.{◌≡◌, ℕ, ◌+◌, ◌<◌, ◌^◌, List, ◌∷◌, All, map, length, slice_get, Some, IfOk};
+ghost use Rattle.shade_core.specs.declared.module.CoreFunction.{CoreFunction};
+ghost use Rattle.shade_graph.specs.declared.node.Node.TheVariants.{Required, NonUniform};
+ghost use Rattle.shade_graph.specs.Graph.{Edge};
+ghost use Rattle.shade_graph.specs.Order.{severity_rank};
+ghost use Rattle.shade_graph.specs.Numbered.{IsGraphOf};
+ghost use Rattle.shade_verdict.specs.Violations.{plain_step, AreViolations};
+ghost use Rattle.shade_verdict.specs.Found.{node_at, Adds, AreFound, NoNode};
+
+use crate::violation::{NodePath, PathStep, Violation};
+use shade_base::Severity;
+use shade_core::{CoreFunction, CoreModule};
+use shade_graph::{FnGraph, Node, graph_of};
+use sqlite_items::Items;
+use std::alloc::{AllocError, Global};
+
+/// A step of a path, over an edge that a statement's own rules give.
+fn step_to(node: Node) -> PathStep
+    ensures { result ≡ plain_step node }
+{
+    PathStep { node, via: None }
+}
+
+/// The steps of a path that begins with a required node and goes on over the nodes with these numbers.
+fn path_steps(
+    alloc: Global,
+    required: Node,
+    nodes: &[Node],
+    numbers: &[u32],
+) -> Result<NodePath, AllocError>
+    requires { All (λ number. number < length nodes.now) numbers.now }
+    ensures { IfOk result (λ steps. steps ≡ map plain_step (required ∷ map (node_at nodes.now) numbers.now)) }
+{
+    let mut steps = Items::new(alloc);
+    steps.push(step_to(required))?;
+    'numbers: for number in numbers {
+        steps.push(step_to(nodes[*number as usize]))?;
+    }
+    Ok(steps)
+}
+
+/// Adds the violation at a node that a severity asks for, where a path leads from the node to the non-uniform node.
+fn add_target(
+    alloc: Global,
+    function: u32,
+    graph: &FnGraph,
+    severity: Severity,
+    target: u32,
+    non_uniform: u32,
+    out: &mut Vec<Violation>,
+) -> Result<(), AllocError>
+    requires target { target < length graph.now.nodes }
+    requires non_uniform { slice_get graph.now.nodes non_uniform ≡ Some NonUniform }
+    ensures { IfOk result (λ _. (f : CoreFunction) → IsGraphOf f graph.now → Edge f (Required severity) (node_at graph.now.nodes target) → Adds f function severity (node_at graph.now.nodes target) out.old.items out.new.items) }
+{
+    // What is asked for is control before a collective statement.
+    let Node::Before(site) = graph.nodes()[target as usize] else {
+        return Ok(());
+    };
+    let Some(path) = graph.graph().least_path(alloc, target, non_uniform)? else {
+        return Ok(());
+    };
+    let required = Node::Required(severity);
+    let path = path_steps(alloc, required, graph.nodes(), path.as_slice())?;
+    out.push(Violation {
+        function,
+        severity,
+        site,
+        path,
+    })?;
+    Ok(())
+}
+
+/// Adds the violations of one severity in a function, by the nodes that are asked for.
+fn add_severity(
+    alloc: Global,
+    function: u32,
+    graph: &FnGraph,
+    severity: Severity,
+    out: &mut Vec<Violation>,
+) -> Result<(), AllocError>
+    ensures { IfOk result (λ _. (functions : List CoreFunction) (f : CoreFunction) → slice_get functions function ≡ Some f → IsGraphOf f graph.now → AreFound functions function (severity_rank severity) NoNode out.old.items → AreFound functions function (severity_rank severity + 1) NoNode out.new.items) }
+{
+    let Some(required) = graph.number_of(Node::Required(severity)) else {
+        return Ok(());
+    };
+    let Some(non_uniform) = graph.number_of(Node::NonUniform) else {
+        return Ok(());
+    };
+    'targets: for target in graph.graph().targets(required) {
+        add_target(alloc, function, graph, severity, *target, non_uniform, out)?;
+    }
+    Ok(())
+}
+
+/// Adds the violations of a function, by severity.
+fn add_function(
+    alloc: Global,
+    number: u32,
+    function: &CoreFunction,
+    out: &mut Vec<Violation>,
+) -> Result<(), AllocError>
+    ensures { IfOk result (λ _. (functions : List CoreFunction) → slice_get functions number ≡ Some function.now → AreFound functions number 0 NoNode out.old.items → AreFound functions (number + 1) 0 NoNode out.new.items) }
+{
+    let graph = graph_of(alloc, function)?;
+    add_severity(alloc, number, &graph, Severity::Error, out)?;
+    add_severity(alloc, number, &graph, Severity::Warning, out)?;
+    add_severity(alloc, number, &graph, Severity::Info, out)?;
+    Ok(())
+}
+
+/// The violations of a module, by function, then severity, then the node that is asked for.
+///
+/// Each has the least path to the non-uniform node. Takes time and memory in the order of the graph of each function,
+/// and of one search through it for each violation. Functions have numbers of 32 bits, as the nodes of a graph do.
+pub fn violations_of(alloc: Global, module: &CoreModule) -> Result<Vec<Violation>, AllocError>
+    ensures { IfOk result (λ violations. AreViolations module.now.functions violations.items) }
+{
+    let functions = module.functions.as_slice();
+    if functions.len() > u32::MAX as usize {
+        return Err(AllocError);
+    }
+    let mut out = Vec::new(alloc);
+    let mut number = 0;
+    'functions: for function in functions {
+        add_function(alloc, number, function, &mut out)?;
+        number += 1;
+    }
+    Ok(out)
+}

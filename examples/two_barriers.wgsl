@@ -1,0 +1,5 @@
+@compute @workgroup_size(64)
+fn main(@builtin(local_invocation_index) i: u32) {
+  workgroupBarrier();
+  workgroupBarrier();
+}
