@@ -1,18 +1,17 @@
 -- A machine whose lanes all owe one list never diverges, and each lane waits along that list.
-use Rattle.std.proofs.Common.{◌≡◌, ◌≢◌, refl, sym, ◌∙◌, ap, subst, ℕ, zero, suc, ◌+◌, ◌==◌, ◌⊎◌, inl, inr, true, false, Bool, not, ◌&&◌, cond, List, [], ◌∷◌, ◌++◌, map, length, Option, Some, None}
+use Rattle.std.proofs.Common.{◌≡◌, ◌≢◌, refl, sym, ◌∙◌, ap, subst, ℕ, zero, suc, ◌+◌, ◌==◌, ◌⊎◌, inl, inr, true, false, Bool, not, ◌&&◌, List, [], ◌∷◌, ◌++◌, map, length, Option, Some, None}
 use Rattle.std.specs.Prelude.{if◌then◌else◌, is_none, is_some, slice_get, slice_set}
-use Rattle.std.specs.List.{list_all, position, position_from}
+use Rattle.std.specs.List.{list_all}
 use Rattle.std.specs.Option.{option_map}
 use Rattle.std.proofs.lemmas.List.{append_assoc, append-nil, append_cancel_left}
 use Rattle.std.proofs.lemmas.Bool.{eqb-true, eq-eqb}
 use Rattle.std.proofs.lemmas.Option.{slice_get-map}
-use Rattle.std.proofs.lemmas.Iterator.Adapters.{position_from-zero}
 use Rattle.shade_values.specs.declared.types.Space.{Space}
 use Rattle.shade_lane.specs.declared.state.LaneState.{LaneState}
 use Rattle.shade_lane.specs.declared.state.LaneState.TheVariants.{Able, Waiting, Ended}
 use Rattle.shade_lane.specs.Lane.{Place, Over, First, is_over, test_value, tested}
 use Rattle.shade_lane.specs.Members.{Member, Arrival, arrival, state_by, state_past, moved, freed, is_able, is_waiting, is_ended}
-use Rattle.shade_group.specs.Group.{Machine, same_instance, unlike, least_unlike, all_wait, release, met, parted, ended, waited, settled, counted, stuttered, with_member, acts, step_by, step_of, step, run, instances, member_arrival, arrival_of, trace}
+use Rattle.shade_group.specs.Group.{Machine, same_instance, unlike, unlike_from, least_unlike, all_wait, release, met, parted, ended, waited, settled, counted, stuttered, with_member, acts, step_by, step_of, step, run, instances, member_arrival, arrival_of, trace}
 use Rattle.shade_sound.proofs.Owed.{owed, owed_rest, Stays, Takes, takes}
 
 -- where a lane waits that waits
@@ -99,15 +98,15 @@ all_set all released [] n m h s = tt
 all_set all released (first ∷ members) zero m h s = (s, h.1)
 all_set all released (first ∷ members) (suc n) m h s = (h.0, all_set all released members n m h.1 s)
 
-nowhere : (all released : List (List ℕ)) (m : Member) → Meets all released m → (members : List Member) (i : ℕ) → AllMeet all released members → position_from (λ x. unlike m.state x.state) i members ≡ None
+nowhere : (all released : List (List ℕ)) (m : Member) → Meets all released m → (members : List Member) (i : ℕ) → AllMeet all released members → unlike_from i m.state members ≡ None
 nowhere all released m s [] i h = refl
 nowhere all released m s (x ∷ members) i h =
-    ap (λ b. cond b (Some i) (position_from (λ y. unlike m.state y.state) (i + 1) members)) (unlike_none all released m.state x.state (owed m.entry m.lane.place) (owed x.entry x.lane.place) s.owes h.0.owes s.over h.0.over)
+    ap (λ b. if b then Some i else unlike_from (i + 1) m.state members) (unlike_none all released m.state x.state (owed m.entry m.lane.place) (owed x.entry x.lane.place) s.owes h.0.owes s.over h.0.over)
     ∙ nowhere all released m s members (i + 1) h.1
 
 -- no lane is unlike one of them
 none_unlike : (all released : List (List ℕ)) (m : Member) → Meets all released m → (members : List Member) → AllMeet all released members → least_unlike m.state members ≡ None
-none_unlike all released m s members h = position_from-zero (λ x. unlike m.state x.state) members ∙ nowhere all released m s members 0 h
+none_unlike all released m s members h = nowhere all released m s members 0 h
 
 and_both : (a b : Bool) → (a && b) ≡ true → (a ≡ true) × (b ≡ true)
 and_both true b e = (refl, e)
