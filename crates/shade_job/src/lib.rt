@@ -1,0 +1,136 @@
+//! The jobs of the runner. A job is today a text of lane numbers: decimals without a leading zero, each below the number
+//! of lanes and each followed by a line break.
+#![tactic(auto)]
+
+ghost use Rattle.std.specs.Prelude.{◌≡◌, ◌<◌, ◌≤◌, ◌^◌, ◌++◌, ◌∷◌, [], ℕ, List, length, take, drop, ◌+◌, ◌==◌, position, IfOk, MatchResult, MatchOption};
+ghost use Rattle.shade_job.specs.declared.JobFault.TheVariants.{NoMemory};
+ghost use Rattle.std.specs.Fmt.{decimal};
+ghost use Rattle.shade_job.specs.Steps.{States, line, lines};
+ghost use Rattle.shade_job.specs.Faults.{Faults};
+
+use shade_first::decimal_value;
+use std::alloc::{AllocError, Global};
+
+/// The greatest number of bytes of a job.
+pub const MOST_BYTES: usize = 16_777_216;
+
+/// The greatest number of steps of a run.
+pub const MOST_STEPS: usize = 10_000_000;
+
+/// Why some bytes state no job.
+#[derive(Clone, Copy, Debug, PartialEq, Eq)]
+pub enum JobFault {
+    /// They break the rule on a job's form.
+    Form,
+    NoMemory,
+}
+
+impl From<AllocError> for JobFault {
+    ghost from_gives = { λ _ e. e ≡ NoMemory };
+
+    fn from(_: AllocError) -> Self {
+        JobFault::NoMemory
+    }
+}
+
+/// Where the first line break stands.
+fn line_end(bytes: &[u8]) -> Option<usize>
+    ensures { result ≡ position (λ b. b == 10) bytes.now }
+{
+    bytes.iter().position(|byte| *byte == b'\n')
+}
+
+fn front(bytes: &[u8], end: usize) -> &[u8]
+    requires { end < length bytes.now }
+    ensures { result.now ≡ take end bytes.now }
+{
+    &bytes[..end]
+}
+
+fn behind(bytes: &[u8], end: usize) -> &[u8]
+    requires { end < length bytes.now }
+    ensures { result.now ≡ drop (end + 1) bytes.now }
+{
+    &bytes[end + 1..]
+}
+
+/// The number of a lane that digits write.
+fn lane_number(text: &[u8], lanes: u32) -> Option<u32>
+    ensures { MatchOption result ((n : ℕ) → n < lanes → ¬ (text.now ≡ decimal n)) (λ n. (text.now ≡ decimal n) × (n < lanes)) }
+{
+    let Some(number) = decimal_value(text) else {
+        return None;
+    };
+    if number < lanes { Some(number) } else { None }
+}
+
+/// The number of the first line and what follows that line, where the line is the number of a lane.
+fn first_line(bytes: &[u8], lanes: u32) -> Option<(u32, &[u8])>
+    ensures { MatchOption result ((n : ℕ) (rest : List ℕ) → n < lanes → ¬ (bytes.now ≡ line n ++ rest)) (λ found. (bytes.now ≡ line found.0 ++ found.1.now) × (found.0 < lanes)) }
+{
+    let Some(end) = line_end(bytes) else {
+        return None;
+    };
+    match lane_number(front(bytes, end), lanes) {
+        Some(number) => Some((number, behind(bytes, end))),
+        None => None,
+    }
+}
+
+fn add(steps: &mut Vec<u32>, step: u32) -> Result<(), AllocError>
+    ensures { IfOk result (λ _. steps.new.items ≡ steps.old.items ++ step ∷ []) }
+{
+    steps.push(step)?;
+    Ok(())
+}
+
+/// The steps that a job of a workgroup of so many lanes states.
+pub fn read_steps(alloc: Global, bytes: &[u8], lanes: u32) -> Result<Vec<u32>, JobFault>
+    ensures { MatchResult result (λ steps. States lanes bytes.now steps.items) (λ fault. Faults lanes bytes.now fault) }
+{
+    if bytes.len() > MOST_BYTES {
+        return Err(JobFault::Form);
+    }
+    let mut steps = Vec::new(alloc);
+    let mut rest = bytes;
+    'lines: while rest.len() > 0 {
+        let Some((number, after)) = first_line(rest, lanes) else {
+            return Err(JobFault::Form);
+        };
+        if steps.len() == MOST_STEPS {
+            return Err(JobFault::Form);
+        }
+        add(&mut steps, number)?;
+        rest = after;
+    }
+    Ok(steps)
+}
+
+#[cfg(test)]
+mod tests {
+    use super::*;
+    use std::test::Fail;
+
+    #[test]
+    fn steps_of_three_lanes(rt: HostRuntime) -> Result<(), Fail> {
+        let alloc = rt.alloc();
+        let rows: [(&[u8], Option<&[u32]>); 8] = [
+            (b"", Some(&[])),
+            (b"0\n2\n1\n", Some(&[0, 2, 1])),
+            (b"3\n", None),
+            (b"00\n", None),
+            (b"1", None),
+            (b"1\n\n", None),
+            (b"1\r\n", None),
+            (b"4294967296\n", None),
+        ];
+        for (bytes, want) in rows {
+            match (read_steps(alloc, bytes, 3), want) {
+                (Ok(steps), Some(want)) => assert_eq!(rt; steps.as_slice(), want),
+                (Err(fault), None) => assert_eq!(rt; fault, JobFault::Form),
+                _ => assert!(rt; false),
+            }
+        }
+        Ok(())
+    }
+}
