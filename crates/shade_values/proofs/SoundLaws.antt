@@ -1,9 +1,9 @@
 -- A table stays sound, and keeps what it says of each type, when a type or a struct is added.
-use Rattle.std.proofs.Common.{◌≡◌, refl, sym, ap, subst, ◌∙◌, ℕ, zero, suc, ◌<◌, ◌≤◌, inl, inr, List, [], ◌∷◌, ◌++◌, length, map, Some, slice_get, get_or, Ok, Err, arith, length-append}
+use Rattle.std.proofs.Common.{◌≡◌, refl, sym, ap, subst, ◌∙◌, ℕ, zero, suc, ◌-◌, ◌^◌, ◌<◌, ◌≤◌, inl, inr, List, [], ◌∷◌, ◌++◌, length, map, Some, slice_get, get_or, Ok, Err, arith, length-append}
 use Rattle.std.specs.Prelude.{Contains, Result, IfOk, OnOk, OnErr, IsErrAnd}
 use Rattle.std.proofs.Math.ListN.{get_or-map as get_or-map_same}
 use Rattle.std.proofs.lemmas.Bool.Decides.{nat_tests}
-use Rattle.std.proofs.lemmas.List.{map-append, get_or_at}
+use Rattle.std.proofs.lemmas.List.{map-append, get_or_at, length-map}
 use Rattle.std.proofs.lemmas.List.Elements.{Contains-append_left, Contains-push}
 use Rattle.std.proofs.lemmas.Option.{slice_get-get_or, slice_get_within}
 use Rattle.std.proofs.Math.Nat.{eq-or-lt_of_le}
@@ -75,8 +75,9 @@ load_made entries structs ty kept = ap (λ ls. loads_by ls structs ty) kept.load
 
 pub kept_type : (entries : List Entry) (structs : List StructView) (e : Entry) → IsKept entries structs
     → e.layout ≡ layout_by (layouts_of entries) structs e.ty → e.loadable ≡ loads_by (loads_of entries) structs e.ty
-    → IsOf (table_of entries structs) e.ty → ¬ Contains (types_of entries) e.ty → IsKept (entries ++ e ∷ []) structs
-kept_type entries structs e kept laid_out loads over new =
+    → IsOf (table_of entries structs) e.ty → ¬ Contains (types_of entries) e.ty
+    → length (types_of entries) < 2 ^ 32 - 1 → IsKept (entries ++ e ∷ []) structs
+kept_type entries structs e kept laid_out loads over new room =
     let t = table_of entries structs in
     let types : types_of (entries ++ e ∷ []) ≡ types_of entries ++ e.ty ∷ [] = map-append (λ x. x.ty) entries (e ∷ []) in
     let all : shapes (table_of (entries ++ e ∷ []) structs) ≡ shapes t ++ spell structs (shapes t) e.ty ∷ [] =
@@ -95,6 +96,7 @@ kept_type entries structs e kept laid_out loads over new =
           ∙ sym (map-append is_loadable (shapes t) (spell structs (shapes t) e.ty ∷ []))
           ∙ sym (ap (map is_loadable) all);
       sound = subst (λ x. IsSound (record { types = x; structs = structs })) (sym types) (sound_type t e.ty kept.sound over new);
+      few = let short : length entries < 2 ^ 32 - 1 = rw length-map at room in omega (arith, length-append entries (e ∷ []));
     }
 
 -- what `laid` answers
@@ -177,8 +179,8 @@ struct_load_made entries structs ms kept =
 pub kept_struct : (entries : List Entry) (structs : List StructView) (name : List ℕ) (ms : List (List ℕ × TypeId)) (e : Entry) → IsKept entries structs
     → e.ty ≡ Struct (length structs)
     → e.layout ≡ struct_layout (map (λ m. layout_in (layouts_of entries) m.1) ms) → e.loadable ≡ list_all (λ m. load_in (loads_of entries) m.1) ms
-    → 0 < length ms → AreKnown (length (types_of entries)) ms → IsKept (entries ++ e ∷ []) (structs ++ (record { name = name; members = ms }) ∷ [])
-kept_struct entries structs name ms e kept ty laid_out loads some known =
+    → 0 < length ms → AreKnown (length (types_of entries)) ms → length (types_of entries) < 2 ^ 32 - 1 → IsKept (entries ++ e ∷ []) (structs ++ (record { name = name; members = ms }) ∷ [])
+kept_struct entries structs name ms e kept ty laid_out loads some known room =
     let t = table_of entries structs in
     let more : List StructView = structs ++ (record { name = name; members = ms }) ∷ [] in
     let types : types_of (entries ++ e ∷ []) ≡ types_of entries ++ Struct (length structs) ∷ [] =
@@ -199,6 +201,7 @@ kept_struct entries structs name ms e kept ty laid_out loads some known =
           ∙ sym (map-append is_loadable (shapes t) (struct_shape t ms ∷ []))
           ∙ sym (ap (map is_loadable) all);
       sound = subst (λ x. IsSound (record { types = x; structs = more })) (sym types) (sound_struct t name ms kept.sound some known);
+      few = let short : length entries < 2 ^ 32 - 1 = rw length-map at room in omega (arith, length-append entries (e ∷ []));
     }
 
 pub struct_refused : (entries : List Entry) (structs : List StructView) (ms : List (List ℕ × TypeId)) (fault : TableFault) → IsKept entries structs

@@ -1,5 +1,5 @@
 -- What a table keeps beside each type: its layout, and whether it is loadable, from those of the types before it.
-use Rattle.std.specs.Prelude.{◌≡◌, ℕ, Bool, true, false, List, map, slice_index_or, nat_le, if◌then◌else◌, Result, Ok, Err}
+use Rattle.std.specs.Prelude.{◌≡◌, ℕ, ◌<◌, ◌^◌, length, Bool, true, false, List, map, slice_index_or, nat_le, if◌then◌else◌, Result, Ok, Err}
 use Rattle.std.specs.List.{list_all}
 use Rattle.shade_values.specs.declared.types.Layout.{Layout}
 use Rattle.shade_values.specs.declared.types.ShadeType.{ShadeType}
@@ -68,3 +68,4 @@ pub record IsKept (entries : List Entry) (structs : List StructView) : Type 0 wh
   pub laid_out : layouts_of entries ≡ map layout (shapes (table_of entries structs))
   pub loads : loads_of entries ≡ map is_loadable (shapes (table_of entries structs))
   pub sound : IsSound (table_of entries structs)
+  pub few : length entries < 2 ^ 32

@@ -169,7 +169,6 @@ impl TypeTable {
 
     /// How many types there are. Their ids are the numbers below. Takes no memory.
     pub fn count(&self) -> u32
-        requires { length self.now.types < 2 ^ 32 }
         ensures count { result ≡ length self.now.types }
         ensures sound { IsSound self.now }
     {

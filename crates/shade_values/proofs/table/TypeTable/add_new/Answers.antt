@@ -28,7 +28,7 @@ invariant_of-self-2 c =
     let loads : c.type_is_loadable-loadable.result ≡ loads_by (loads_of c.self.inside.entries.items) c.self.inside.structs.items c.args.ty =
     rw (← c.deref-3.ensures.value, ← c.deref-4.ensures.value) c.type_is_loadable-loadable.ensures in
     rw c.in_ok-push.ensures.pushed
-    (kept_type _ _ _ c.self.invariant (layout_taken _ _ c.args.ty _ c.self.invariant taken).0 loads (rw (← c.self.view_is) at c.requires.parts) (rw (← c.self.view_is) at c.requires.new))
+    (kept_type _ _ _ c.self.invariant (layout_taken _ _ c.args.ty _ c.self.invariant taken).0 loads (rw (← c.self.view_is) at c.requires.parts) (rw (← c.self.view_is) at c.requires.new) (rw (← c.self.view_is) at c.requires.room))
 
 pub returns-clause-large : goal.returns-clause-large
 returns-clause-large c =

@@ -44,4 +44,4 @@ invariant_of-self-2 c =
     rw (← c.deref-2.ensures.value) c.struct_is_loadable-loadable.ensures in
     let number : c.len.result ≡ length c.self.inside.structs.items = search rules in
     rw (c.in_ok-push_struct.ensures.entries, c.in_ok-push_struct.ensures.structs, c.in_ok-known.ensures.copy)
-    (kept_struct _ _ c.args.name.now c.args.members.now _ c.self.invariant (ap Struct number) (struct_taken _ _ c.args.members.now _ c.self.invariant taken).0 loads c.requires.some (rw (← c.self.view_is) at c.requires.known))
+    (kept_struct _ _ c.args.name.now c.args.members.now _ c.self.invariant (ap Struct number) (struct_taken _ _ c.args.members.now _ c.self.invariant taken).0 loads c.requires.some (rw (← c.self.view_is) at c.requires.known) (rw (← c.self.view_is) at c.requires.room))
