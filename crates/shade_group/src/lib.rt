@@ -3,6 +3,7 @@
 //! The definitions stand in `specs/Group.antt`.
 #![tactic(auto)]
 
+mod begin;
 mod event;
 mod group;
 mod lanes;
