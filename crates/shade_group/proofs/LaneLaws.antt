@@ -14,7 +14,7 @@ use Rattle.shade_base.specs.Counter.{one_more}
 use Rattle.shade_values.specs.declared.types.Space.{Space}
 use Rattle.shade_lane.specs.declared.state.LaneState.TheVariants.{Able, Waiting, Ended}
 use Rattle.shade_group.specs.declared.event.Epochs.{Epochs}
-use Rattle.shade_group.specs.Group.{Machine, least_unlike, parted, parted_event, waited, waited_event, ended, ended_event, release_by, released_event, met, raised, end_by, same_instance, unlike, unlike_from, all_wait, all_ended, acts, counted, stuttered, settled, settled_event, step, step_of, step_by, event, event_of, event_by, run}
+use Rattle.shade_group.specs.Group.{Machine, able_from, least_unlike, parted, parted_event, waited, waited_event, ended, ended_event, release_by, released_event, met, raised, end_by, same_instance, unlike, unlike_from, all_wait, all_ended, acts, counted, stuttered, settled, settled_event, step, step_of, step_by, event, event_of, event_by, run}
 use Rattle.shade_group.specs.Seen.{members_of, state_at, machine_from}
 
 pub same_words : (xs ys : List ℕ) → pointwise nat_eq xs ys ≡ same_instance xs ys
@@ -231,3 +231,13 @@ waits_somewhere Ended e h = cc
 pub never_default : (lanes : List Seen) (n : ℕ) (x : Seen) (state : LaneState) → n < length lanes → x ≡ get_or lanes n x → is_waiting (state_at lanes n) ≡ true → state ≡ x.state
     → ((space : Space) (instance : List ℕ) → ¬ (state ≡ Waiting space instance)) → ⊥
 never_default lanes n x state h is waits same none = waits_somewhere state (ap is_waiting same ∙ (ap is_waiting (sym (state_is lanes n x h is)) ∙ waits)) none
+
+-- ---- the able lanes
+
+pub able_next : (lanes : List Seen) (i : ℕ) (x : Seen) → i < length lanes → x ≡ get_or lanes i x
+    → length (able_from i (members_of (drop i lanes))) ≡ (if is_able x.state then 1 else 0) + length (able_from (i + 1) (members_of (drop (i + 1) lanes)))
+able_next lanes i x h is = ap (λ ls. length (able_from i (members_of ls))) (drop_here lanes i x h is) ∙ by (is_able x.state)
+  where
+    by : (able : Bool) → length (if able then i ∷ able_from (i + 1) (members_of (drop (i + 1) lanes)) else able_from (i + 1) (members_of (drop (i + 1) lanes))) ≡ (if able then 1 else 0) + length (able_from (i + 1) (members_of (drop (i + 1) lanes)))
+    by true = let n : ℕ = length (able_from (i + 1) (members_of (drop (i + 1) lanes))) in omega arith
+    by false = omega arith
