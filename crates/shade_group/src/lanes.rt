@@ -1,6 +1,6 @@
 // What is asked of all lanes, and done to all.
 
-ghost use Rattle.std.specs.Prelude.{◌≡◌, ◌<◌, ◌^◌, length, map};
+ghost use Rattle.std.specs.Prelude.{◌≡◌, ◌<◌, ◌^◌, length, map, slice_get, Some};
 ghost use Rattle.std.specs.Cmp.Lexicographic.{pointwise};
 ghost use Rattle.shade_group.specs.Group.{able_from, raised as raised_of, least_unlike as least_unlike_of, same_instance as same_instance_of, unlike as unlike_of};
 ghost use Rattle.std.specs.List.{list_all};
@@ -97,6 +97,26 @@ pub(crate) fn able_count(lanes: &[Lane]) -> u32
         }
     }
     count
+}
+
+/// The lane that may step at this place of those that may, by number.
+pub(crate) fn able_at(lanes: &[Lane], k: u32) -> u32
+    requires few { length lanes.now < 2 ^ 32 }
+    requires within { k < length (able_from 0 (members_of lanes.now)) }
+    ensures { slice_get (able_from 0 (members_of lanes.now)) k ≡ Some result }
+{
+    let mut left = k;
+    let mut number = 0;
+    for lane in lanes {
+        if is_able(lane.state()) {
+            if left == 0 {
+                return number;
+            }
+            left -= 1;
+        }
+        number += 1;
+    }
+    number
 }
 
 /// Whether every lane waits.

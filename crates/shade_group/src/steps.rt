@@ -10,7 +10,8 @@ ghost use Rattle.shade_lane.specs.Members.{is_able as is_able_of, is_waiting as 
 use crate::event::{GroupEvent, RunEnd};
 use crate::group::Group;
 use crate::lanes::{
-    able_count, all_ended, all_wait, free, is_able, is_waiting, least_unlike_at, one_more, raised,
+    able_at, able_count, all_ended, all_wait, free, is_able, is_waiting, least_unlike_at, one_more,
+    raised,
 };
 use shade_lane::LaneState;
 use std::alloc::AllocError;
@@ -97,6 +98,14 @@ impl<'m> Group<'m> {
         ensures { result ≡ length (able_lanes (machine_of self.now)) }
     {
         able_count(&self.lanes)
+    }
+
+    /// The number of the lane at this place of those that may step, by number. Takes no memory.
+    pub fn able_at(&self, k: u32) -> u32
+        requires { k < length (able_lanes (machine_of self.now)) }
+        ensures { slice_get (able_lanes (machine_of self.now)) k ≡ Some result }
+    {
+        able_at(&self.lanes, k)
     }
 
     /// The words of the instance at which a lane waits, where it waits. Takes no memory.
