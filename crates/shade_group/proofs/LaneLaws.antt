@@ -1,5 +1,5 @@
 -- Lists of lanes.
-use Rattle.std.proofs.Common.{◌≡◌, ℕ, zero, suc, ◌+◌, ◌<◌, Bool, true, false, ◌&&◌, List, [], ◌∷◌, ◌++◌, Option, Some, None, refl, ap, sym, ◌∙◌, map, take, drop, length, get_or, set, arith, add-one, drop-cons, nat_eq, ◌≤◌, ◌⊎◌, inl, inr}
+use Rattle.std.proofs.Common.{◌-◌, ◌≡◌, ℕ, zero, suc, ◌+◌, ◌<◌, Bool, true, false, ◌&&◌, List, [], ◌∷◌, ◌++◌, Option, Some, None, refl, ap, sym, ◌∙◌, map, take, drop, length, get_or, set, arith, add-one, drop-cons, nat_eq, ◌≤◌, ◌⊎◌, inl, inr}
 use Rattle.std.proofs.lemmas.List.{map-set, take_more}
 use Rattle.std.proofs.Math.Seq.{map-set_same}
 use Rattle.std.specs.Prelude.{slice_get, slice_set, is_none, is_some, Result, Ok, Err, OnErr, if◌then◌else◌}
@@ -14,7 +14,7 @@ use Rattle.shade_base.specs.Counter.{one_more}
 use Rattle.shade_values.specs.declared.types.Space.{Space}
 use Rattle.shade_lane.specs.declared.state.LaneState.TheVariants.{Able, Waiting, Ended}
 use Rattle.shade_group.specs.declared.event.Epochs.{Epochs}
-use Rattle.shade_group.specs.Group.{Machine, least_unlike, parted, parted_event, waited, waited_event, ended, ended_event, release_by, released_event, met, raised, end_by, same_instance, unlike, unlike_from, all_wait, all_ended, acts, counted, stuttered, settled, settled_event, step, step_of, step_by, event, event_of, event_by, run}
+use Rattle.shade_group.specs.Group.{Machine, able_from, least_unlike, parted, parted_event, waited, waited_event, ended, ended_event, release_by, released_event, met, raised, end_by, same_instance, unlike, unlike_from, all_wait, all_ended, acts, counted, stuttered, settled, settled_event, step, step_of, step_by, event, event_of, event_by, run}
 use Rattle.shade_group.specs.Seen.{members_of, state_at, machine_from}
 
 pub same_words : (xs ys : List ℕ) → pointwise nat_eq xs ys ≡ same_instance xs ys
@@ -231,3 +231,42 @@ waits_somewhere Ended e h = cc
 pub never_default : (lanes : List Seen) (n : ℕ) (x : Seen) (state : LaneState) → n < length lanes → x ≡ get_or lanes n x → is_waiting (state_at lanes n) ≡ true → state ≡ x.state
     → ((space : Space) (instance : List ℕ) → ¬ (state ≡ Waiting space instance)) → ⊥
 never_default lanes n x state h is waits same none = waits_somewhere state (ap is_waiting same ∙ (ap is_waiting (sym (state_is lanes n x h is)) ∙ waits)) none
+
+-- ---- the able lanes
+
+pub able_next : (lanes : List Seen) (i : ℕ) (x : Seen) → i < length lanes → x ≡ get_or lanes i x
+    → length (able_from i (members_of (drop i lanes))) ≡ (if is_able x.state then 1 else 0) + length (able_from (i + 1) (members_of (drop (i + 1) lanes)))
+able_next lanes i x h is = ap (λ ls. length (able_from i (members_of ls))) (drop_here lanes i x h is) ∙ by (is_able x.state)
+  where
+    by : (able : Bool) → length (if able then i ∷ able_from (i + 1) (members_of (drop (i + 1) lanes)) else able_from (i + 1) (members_of (drop (i + 1) lanes))) ≡ (if able then 1 else 0) + length (able_from (i + 1) (members_of (drop (i + 1) lanes)))
+    by true = let n : ℕ = length (able_from (i + 1) (members_of (drop (i + 1) lanes))) in omega arith
+    by false = omega arith
+
+-- an able lane is passed over, the first one is found, and one that may not step counts nothing
+pub able_passed : (lanes : List Seen) (i left : ℕ) (x : Seen) → i < length lanes → x ≡ get_or lanes i x → is_able x.state ≡ true → 0 < left
+    → slice_get (able_from (i + 1) (members_of (drop (i + 1) lanes))) (left - 1) ≡ slice_get (able_from i (members_of (drop i lanes))) left
+able_passed lanes i zero x h is able some = absurd (omega (arith, some))
+able_passed lanes i (suc left) x h is able some = rw (drop_here lanes i x h is, able) (ap (λ n. slice_get (able_from (i + 1) (members_of (drop (i + 1) lanes))) n) (omega arith))
+
+pub able_first : (lanes : List Seen) (i : ℕ) (x : Seen) → i < length lanes → x ≡ get_or lanes i x → is_able x.state ≡ true
+    → slice_get (able_from i (members_of (drop i lanes))) 0 ≡ Some i
+able_first lanes i x h is able = rw (drop_here lanes i x h is, able) refl
+
+pub able_skipped : (lanes : List Seen) (i left : ℕ) (x : Seen) → i < length lanes → x ≡ get_or lanes i x → is_able x.state ≡ false
+    → slice_get (able_from (i + 1) (members_of (drop (i + 1) lanes))) left ≡ slice_get (able_from i (members_of (drop i lanes))) left
+able_skipped lanes i left x h is able = rw (drop_here lanes i x h is, able) refl
+
+within_some : {A : Type 0} (xs : List A) (k : ℕ) → k < length xs → None ≡ slice_get xs k → ⊥
+within_some [] k h e = absurd (omega (arith, h))
+within_some (x ∷ xs) zero h e = cc
+within_some (x ∷ xs) (suc k) h e = within_some xs k (omega (arith, h)) e
+
+all_dropped : {A : Type 0} (xs : List A) (i : ℕ) → length xs ≤ i → drop i xs ≡ []
+all_dropped [] zero h = refl
+all_dropped [] (suc i) h = refl
+all_dropped (x ∷ xs) zero h = absurd (omega (arith, h))
+all_dropped (x ∷ xs) (suc i) h = all_dropped xs i (omega (arith, h))
+
+-- the able lane with a number below their count is found
+pub able_found : (lanes : List Seen) (i left k : ℕ) → length lanes ≤ i → slice_get (able_from i (members_of (drop i lanes))) left ≡ slice_get (able_from 0 (members_of lanes)) k → k < length (able_from 0 (members_of lanes)) → ⊥
+able_found lanes i left k h e within = within_some (able_from 0 (members_of lanes)) k within (sym (ap (λ ls. slice_get (able_from i (members_of ls)) left) (all_dropped lanes i h)) ∙ e)

@@ -1,8 +1,8 @@
 // What is asked of all lanes, and done to all.
 
-ghost use Rattle.std.specs.Prelude.{◌≡◌, ◌<◌, ◌^◌, length, map};
+ghost use Rattle.std.specs.Prelude.{◌≡◌, ◌<◌, ◌^◌, length, map, slice_get, Some};
 ghost use Rattle.std.specs.Cmp.Lexicographic.{pointwise};
-ghost use Rattle.shade_group.specs.Group.{raised as raised_of, least_unlike as least_unlike_of, same_instance as same_instance_of, unlike as unlike_of};
+ghost use Rattle.shade_group.specs.Group.{able_from, raised as raised_of, least_unlike as least_unlike_of, same_instance as same_instance_of, unlike as unlike_of};
 ghost use Rattle.std.specs.List.{list_all};
 ghost use Rattle.shade_base.specs.Counter.{one_more as one_more_of};
 ghost use Rattle.shade_group.specs.Seen.{members_of, state_at};
@@ -83,6 +83,40 @@ pub(crate) fn least_unlike_at(lanes: &[Lane], number: u32) -> Option<u32>
     ensures { result ≡ least_unlike_of (state_at lanes.now number) (members_of lanes.now) }
 {
     least_unlike(lanes, lanes[number as usize].state())
+}
+
+/// How many lanes may step.
+pub(crate) fn able_count(lanes: &[Lane]) -> u32
+    requires { length lanes.now < 2 ^ 32 }
+    ensures { result ≡ length (able_from 0 (members_of lanes.now)) }
+{
+    let mut count = 0;
+    for lane in lanes {
+        if is_able(lane.state()) {
+            count += 1;
+        }
+    }
+    count
+}
+
+/// The lane that may step at this place of those that may, by number.
+pub(crate) fn able_at(lanes: &[Lane], k: u32) -> u32
+    requires few { length lanes.now < 2 ^ 32 }
+    requires within { k < length (able_from 0 (members_of lanes.now)) }
+    ensures { slice_get (able_from 0 (members_of lanes.now)) k ≡ Some result }
+{
+    let mut left = k;
+    let mut number = 0;
+    for lane in lanes {
+        if is_able(lane.state()) {
+            if left == 0 {
+                return number;
+            }
+            left -= 1;
+        }
+        number += 1;
+    }
+    number
 }
 
 /// Whether every lane waits.

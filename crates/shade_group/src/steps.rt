@@ -2,7 +2,7 @@
 
 ghost use Rattle.std.specs.Prelude.{◌≡◌, ℕ, ◌<◌, ◌≤◌, ◌^◌, length, take, slice_get, true, false, Some, None, IfOk, OnOk, OnErr, IfSome, vec_len, vec_capacity};
 ghost use Rattle.std.specs.List.{list_all};
-ghost use Rattle.shade_group.specs.Group.{event as event_of, ordered as ordered_of, parted, parted_event, released_event, run, run_end_of, settled, settled_event, step as step_of, release_by, stuttered, least_unlike, waits_at, all_wait as all_wait_of, all_ended as all_ended_of};
+ghost use Rattle.shade_group.specs.Group.{event as event_of, ordered as ordered_of, parted, parted_event, released_event, run, run_end_of, settled, settled_event, step as step_of, release_by, stuttered, least_unlike, waits_at, able_lanes, all_wait as all_wait_of, all_ended as all_ended_of};
 ghost use Rattle.std.specs.Option.{option_copied};
 ghost use Rattle.shade_group.specs.Seen.{machine_of, state_at};
 ghost use Rattle.shade_lane.specs.Members.{is_able as is_able_of, is_waiting as is_waiting_of};
@@ -10,7 +10,8 @@ ghost use Rattle.shade_lane.specs.Members.{is_able as is_able_of, is_waiting as 
 use crate::event::{GroupEvent, RunEnd};
 use crate::group::Group;
 use crate::lanes::{
-    all_ended, all_wait, free, is_able, is_waiting, least_unlike_at, one_more, raised,
+    able_at, able_count, all_ended, all_wait, free, is_able, is_waiting, least_unlike_at, one_more,
+    raised,
 };
 use shade_lane::LaneState;
 use std::alloc::AllocError;
@@ -90,6 +91,21 @@ impl<'m> Group<'m> {
         ensures { slice_get (machine_of self.now).released k ≡ Some result.now }
     {
         self.released[k as usize].as_slice()
+    }
+
+    /// How many lanes may step. Takes no memory.
+    pub fn able_count(&self) -> u32
+        ensures { result ≡ length (able_lanes (machine_of self.now)) }
+    {
+        able_count(&self.lanes)
+    }
+
+    /// The number of the lane at this place of those that may step, by number. Takes no memory.
+    pub fn able_at(&self, k: u32) -> u32
+        requires { k < length (able_lanes (machine_of self.now)) }
+        ensures { slice_get (able_lanes (machine_of self.now)) k ≡ Some result }
+    {
+        able_at(&self.lanes, k)
     }
 
     /// The words of the instance at which a lane waits, where it waits. Takes no memory.
