@@ -1,0 +1,6 @@
+pub mod Characters
+pub mod Lexemes
+pub mod Counts
+pub mod Comments
+pub mod Pieces
+pub mod Tokens
