@@ -5,3 +5,6 @@ pub mod Longest
 pub mod PieceLaws
 pub mod LexLaws
 pub mod OnceLaws
+pub mod ScanLaws
+pub mod ScanSteps
+pub mod ScanNext

@@ -4,3 +4,5 @@ pub mod Counts
 pub mod Comments
 pub mod Pieces
 pub mod Tokens
+pub mod Templates
+pub mod Scan
