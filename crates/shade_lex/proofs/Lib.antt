@@ -1,0 +1,10 @@
+pub mod CountLaws
+pub mod CommentLaws
+pub mod ValueLaws
+pub mod Longest
+pub mod PieceLaws
+pub mod LexLaws
+pub mod OnceLaws
+pub mod ScanLaws
+pub mod ScanSteps
+pub mod ScanNext

@@ -1,0 +1,8 @@
+pub mod Characters
+pub mod Lexemes
+pub mod Counts
+pub mod Comments
+pub mod Pieces
+pub mod Tokens
+pub mod Templates
+pub mod Scan

@@ -1,0 +1,9 @@
+//! What is true of every text.
+
+ghost use Rattle.std.specs.Prelude.{List, ℕ};
+ghost use Rattle.shade_lex.specs.Tokens.{IsReadOnce};
+
+/// A text has at most one list of tokens, at most one problem, and not both. It does nothing: its contract is the law.
+pub fn texts_are_read_once()
+    ensures { (text : List ℕ) → IsReadOnce text }
+{}
