@@ -3,7 +3,7 @@ use Rattle.std.proofs.Common.{◌≡◌, refl, sym, ◌∙◌, ap, ap₂, subst,
 use Rattle.std.specs.Prelude.{if◌then◌else◌, is_some, slice_get, IsSome}
 use Rattle.std.proofs.lemmas.List.{append-nil, append_cancel_left}
 use Rattle.shade_base.specs.declared.place.Place.{Place}
-use Rattle.shade_base.specs.declared.severity.Severity.TheVariants.{Error}
+use Rattle.shade_base.specs.declared.severity.Severity.TheVariants.{Error, Off}
 use Rattle.shade_values.specs.declared.op.Op.{Op}
 use Rattle.shade_values.specs.declared.op.Op.TheVariants.{Less}
 use Rattle.shade_values.specs.declared.types.Space.{Space}
@@ -22,9 +22,10 @@ use Rattle.shade_core.specs.Code.{Plain, Set, Barrier, Jump, Return, Code, done,
 use Rattle.shade_core.proofs.CodeLaws.{act_is, statement_is, layer}
 use Rattle.shade_graph.specs.declared.node.Node.{Node}
 use Rattle.shade_graph.specs.declared.node.Node.TheVariants.{Required, NonUniform, Start, Param}
-use Rattle.shade_graph.specs.Graph.{Edge, differs, local_index, of_statement}
-use Rattle.shade_verdict.specs.Violations.{IsViolation}
-use Rattle.shade_verdict.specs.Clean.{IsClean}
+use Rattle.shade_graph.specs.Graph.{Edge, differs, local_index, Among, here, later}
+use Rattle.shade_verdict.specs.declared.violation.Violation.{Violation}
+use Rattle.shade_verdict.specs.Violations.{IsViolation, AreViolations}
+use Rattle.shade_verdict.specs.Clean.{IsClean, HasOff, off_here, off_rest, off_in_one, off_in_two, off_behind}
 use Rattle.shade_first.specs.declared.tree.FirstItem.{FirstItem}
 use Rattle.shade_first.specs.declared.tree.FirstShader.{FirstShader}
 use Rattle.shade_first.specs.Lowering as lower
@@ -35,7 +36,7 @@ use Rattle.shade_lane.specs.declared.builtins.Builtins.{Builtins}
 use Rattle.shade_lane.specs.Lane.{Rest, halt, seq}
 use Rattle.shade_lane.specs.Members.{Member, begin_member, is_ended}
 use Rattle.shade_group.specs.Group.{Machine, builtins_of, lane_count, members_from, sized_members, entry_members, begin, run, trace}
-use Rattle.shade_sound.specs.Laws.{NeverDiverges, TracesAgree, IsPrefixOf, has_ended}
+use Rattle.shade_sound.specs.Laws.{CleanWithoutViolations, NeverDiverges, TracesAgree, IsPrefixOf, has_ended}
 use Rattle.shade_sound.proofs.Owed.{owed, owed_rest, Moves, moves, steady_flat}
 use Rattle.shade_sound.proofs.Runs.{Meets, AllMeet, Good, run_good, owed_of, owed_at, trace_owes, has, run_has, ended_owes_none}
 use Rattle.shade_sound.proofs.Regions.{Items, none, meet, split, Flat, flat_return, Reaches, flat, whole_within}
@@ -74,25 +75,70 @@ before_last : (statements : List CoreStatement) (s : CoreStatement) → code_of 
 before_last [] s = refl
 before_last (x ∷ statements) s = ap (statement_code x) (before_last statements s)
 
+-- the control of a shader's function
+body_items : (s : FirstShader) (statements : List CoreStatement) (next : ℕ) → Lowers s.items 0 statements next → Items 0 (jump next (Return None) done) (code_of (function_of s statements next).body)
+body_items s statements next l =
+    let whole : code_of (function_of s statements next).body ≡ before statements (jump next (Return None) done) = before_last statements (last_return next s.end) ∙ ap (before statements) (return_code next s.end None done) in
+    subst (λ c. Items 0 (jump next (Return None) done) c) (sym whole) (items_of l (jump next (Return None) done))
+
 -- the function of a clean shader is flat
 function_flat : (functions : List CoreFunction) (s : FirstShader) (statements : List CoreStatement) (next : ℕ) → Lowers s.items 0 statements next → functions ≡ function_of s statements next ∷ [] → IsClean functions → Flat (code_of (function_of s statements next).body)
 function_flat functions s statements next l is clean =
     let f : CoreFunction = function_of s statements next in
     let numbered : slice_get functions 0 ≡ Some f = ap (λ fs. slice_get fs 0) is in
-    let whole : code_of f.body ≡ before statements (jump next (Return None) done) = before_last statements (last_return next s.end) ∙ ap (before statements) (return_code next s.end None done) in
     flat f (λ u asked r. clean.none 0 Error u (record { function = f; numbered = numbered; asked = asked; path = u ∷ r.0; joined = (refl, r.1) }))
-    (omega arith) (differs refl refl local_index) Start flat_return (subst (λ c. Items 0 (jump next (Return None) done) c) (sym whole) (items_of l (jump next (Return None) done))) (whole_within f)
+    (omega arith) (differs refl refl local_index) Start flat_return (body_items s statements next l) (whole_within f)
+
+-- a module with one function has no other
+only_one : (one f : CoreFunction) (k : ℕ) → slice_get (one ∷ []) k ≡ Some f → f ≡ one
+only_one one f zero e = cc
+only_one one f (suc k) e = let no_one : ⊥ = cc in absurd no_one
 
 -- so is each function of a clean shader
 pub shader_flat : (text : List ℕ) (shader : CoreModule) → StandsFor text shader → IsClean shader.functions → (k : ℕ) (f : CoreFunction) → slice_get shader.functions k ≡ Some f → Flat (code_of f.body)
 shader_flat text shader stands clean k f at =
     let one : CoreFunction = function_of stands.shader stands.stands.statements stands.stands.next in
-    let same : f ≡ one = only k (sym (ap (λ fs. slice_get fs k) stands.stands.functions) ∙ at) in
+    let same : f ≡ one = only_one one f k (sym (ap (λ fs. slice_get fs k) stands.stands.functions) ∙ at) in
     subst (λ (g : CoreFunction). Flat (code_of g.body)) (sym same) (function_flat shader.functions stands.shader stands.stands.statements stands.stands.next stands.stands.lowered stands.stands.functions clean)
-  where
-    only : (j : ℕ) → slice_get (function_of stands.shader stands.stands.statements stands.stands.next ∷ []) j ≡ Some f → f ≡ function_of stands.shader stands.stands.statements stands.stands.next
-    only zero e = cc
-    only (suc j) e = let no_one : ⊥ = cc in absurd no_one
+
+-- ---- no barrier drops its requirement
+
+abbrev OffAct : Plain → Type 0
+OffAct (Barrier space Off) = Unit {0}
+OffAct _ = ⊥
+
+abbrev OffCases : Code → Type 0
+OffCases (plain n act rest) = OffAct act ⊎ HasOff rest
+OffCases (branch n cond one two rest) = HasOff one ⊎ (HasOff two ⊎ HasOff rest)
+OffCases _ = ⊥
+
+off_cases : {c : Code} → HasOff c → OffCases c
+off_cases off_here = inl tt
+off_cases (off_rest h) = inr h
+off_cases (off_in_one h) = inl h
+off_cases (off_in_two h) = inr (inl h)
+off_cases (off_behind next h) = inr (inr h)
+
+no_off : {n : ℕ} {tail c : Code} → Items n tail c → (HasOff tail → ⊥) → HasOff c → ⊥
+no_off none ends h = ends h
+no_off (meet i) ends h = elim (off_cases h) [ inl bad ↦ bad | inr behind_ ↦ no_off i ends behind_ ]
+no_off (split i j) ends h =
+    elim (off_cases h) [ inl bad ↦ bad | inr behind_ ↦ elim (off_cases behind_) [ inl inner ↦ no_off i off_cases inner | inr more ↦ elim more [ inl other ↦ off_cases other | inr rest ↦ no_off j ends rest ] ] ]
+
+none_among : {v : Violation} → Among v [] → ⊥
+none_among h = nothing h refl where
+  nothing : {vs : List Violation} {v : Violation} → Among v vs → vs ≡ [] → ⊥
+  nothing here e = cc
+  nothing (later h) e = cc
+
+pub clean : CleanWithoutViolations
+clean text shader stands violations = record {
+  none = λ number severity node v. none_among (violations.complete number severity node v).1;
+  asked = λ k f at off.
+      (let one : CoreFunction = function_of stands.shader stands.stands.statements stands.stands.next in
+      let same : f ≡ one = only_one one f k (sym (ap (λ fs. slice_get fs k) stands.stands.functions) ∙ at) in
+      no_off (body_items stands.shader stands.stands.statements stands.stands.next stands.stands.lowered) off_cases (subst (λ (g : CoreFunction). HasOff (code_of g.body)) same off));
+}
 
 -- ---- the start
 

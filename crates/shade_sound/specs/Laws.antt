@@ -1,12 +1,17 @@
 -- The convergence of clean shaders of the first form, over all lists of lane steps. Lists may name any numbers: a number that is no
 -- lane's is a step that changes nothing but the counts.
-use Rattle.std.specs.Prelude.{◌≡◌, ◌⊎◌, ℕ, Bool, true, false, List, ◌++◌, Option, None, Some, slice_get}
+use Rattle.std.specs.Prelude.{◌≡◌, ◌⊎◌, ℕ, Bool, true, false, List, [], ◌++◌, Option, None, Some, slice_get}
 use Rattle.shade_core.specs.declared.module.CoreModule.{CoreModule}
+use Rattle.shade_verdict.specs.Violations.{AreViolations}
 use Rattle.shade_verdict.specs.Clean.{IsClean}
 use Rattle.shade_first.specs.FirstForm.{StandsFor}
 use Rattle.shade_mem.specs.declared.inputs.Inputs.{Inputs}
 use Rattle.shade_lane.specs.Members.{Member, is_ended}
 use Rattle.shade_group.specs.Group.{Machine, begin, run, trace}
+
+-- A shader of the first form whose violations are the empty list is clean.
+abbrev pub CleanWithoutViolations : Type 0
+CleanWithoutViolations = (text : List ℕ) (shader : CoreModule) → StandsFor text shader → AreViolations shader.functions [] → IsClean shader.functions
 
 -- No run of a clean shader has diverged.
 abbrev pub NeverDiverges : Type 0

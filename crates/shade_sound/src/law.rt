@@ -1,5 +1,10 @@
 // The headline: clean shaders converge at their barriers.
-ghost use Rattle.shade_sound.specs.Laws.{NeverDiverges, TracesAgree};
+ghost use Rattle.shade_sound.specs.Laws.{CleanWithoutViolations, NeverDiverges, TracesAgree};
+
+/// A shader of the first form for which a check tells no violation is clean.
+pub fn no_violation_is_clean()
+    ensures { CleanWithoutViolations }
+{}
 
 /// Whichever lanes are stepped, the lanes of a clean shader of the first form never diverge at a barrier.
 pub fn clean_never_diverges()
