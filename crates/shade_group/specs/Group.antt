@@ -13,7 +13,7 @@ use Rattle.shade_mem.specs.Inputs.{start_words}
 use Rattle.shade_lane.specs.declared.builtins.Builtins.{Builtins}
 use Rattle.shade_lane.specs.declared.state.LaneState.{LaneState}
 use Rattle.shade_lane.specs.declared.state.LaneState.TheVariants.{Able, Waiting, Ended}
-use Rattle.shade_lane.specs.Lane.{runs}
+use Rattle.shade_lane.specs.Lane.{runs, ends_in_return}
 use Rattle.shade_lane.specs.Members.{Member, Arrival, arrival, moved, freed, begin_member, is_able, is_waiting, is_ended}
 use Rattle.shade_group.specs.declared.event.Epochs.{Epochs}
 use Rattle.shade_group.specs.declared.event.GroupEvent.{GroupEvent}
@@ -263,12 +263,13 @@ begin shader inputs = record {
 
 abbrev pub sized_runs : CoreFunction → Option (List ℕ) → Type 0
 sized_runs function None = ⊥
-sized_runs function (Some size) = (1 ≤ lane_count size) × (lane_count size ≤ 256) × (runs (code_of function.body) ≡ true)
+sized_runs function (Some size) = (1 ≤ lane_count size) × (lane_count size ≤ 256) × (runs (code_of function.body) ≡ true) × (ends_in_return (code_of function.body) ≡ true)
 
 abbrev pub entry_runs : Option CoreFunction → Type 0
 entry_runs None = ⊥
 entry_runs (Some function) = sized_runs function function.entry
 
--- A function that the machine runs: an entry of 1 to 256 lanes, of Set, If, Barrier and Return alone.
+-- A function that the machine runs: an entry of 1 to 256 lanes, whose statements and operations have cases, and whose last statement is
+-- a Return.
 pub record IsRunnable (shader : CoreModule) (entry : ℕ) : Type 0 where
   pub body : entry_runs (slice_get shader.functions entry)

@@ -1,6 +1,6 @@
 -- A lane by itself: what it has left, where it stands, what it holds, and its step.
--- Kinds of statement other than Set, If, Barrier and Return have no case yet: a lane passes over them. `runs` says which lists of
--- statements have none of them.
+-- Kinds of statement other than Set, If, Barrier and Return have no case yet: a lane passes over them. Operations other than Less have
+-- none either, and Less is that of two u32 values. `runs` says which lists of statements have cases alone.
 use Rattle.std.specs.Prelude.{ℕ, ◌+◌, ◌*◌, Bool, true, false, ◌&&◌, not, List, [], ◌∷◌, map, Option, Some, None, if◌then◌else◌, ◌==◌, pos, slice_get, slice_index, int_lt}
 use Rattle.std.specs.Ordering.{int_eq}
 use Rattle.shade_values.specs.declared.types.Scalar.{Scalar}
@@ -216,8 +216,13 @@ step params lane = record { place = next (go (test_value params lane.values (tes
 
 -- ---- the statements that have a case
 
+-- an operation with a case, on so many operands
+abbrev pub is_known : Op → List Operand → Bool
+is_known Less (a ∷ b ∷ []) = true
+is_known _ args = false
+
 abbrev pub act_runs : Plain → Bool
-act_runs (Set op args) = true
+act_runs (Set op args) = is_known op args
 act_runs (Barrier space severity) = true
 act_runs _ = false
 
@@ -225,10 +230,18 @@ abbrev pub jump_runs : Jump → Bool
 jump_runs (Return value) = true
 jump_runs _ = false
 
--- a list that has Set, If, Barrier and Return alone
+-- a list that has Set, If, Barrier and Return alone, and known operations
 abbrev pub runs : Code → Bool
 runs done = true
 runs (plain n act rest) = act_runs act && runs rest
 runs (jump n act rest) = jump_runs act && runs rest
 runs (branch n cond first second rest) = runs first && (runs second && runs rest)
 runs _ = false
+
+-- a list whose last statement is a Return
+abbrev pub ends_in_return : Code → Bool
+ends_in_return (plain n act rest) = ends_in_return rest
+ends_in_return (jump n (Return value) done) = true
+ends_in_return (jump n act rest) = ends_in_return rest
+ends_in_return (branch n cond first second rest) = ends_in_return rest
+ends_in_return _ = false

@@ -1,4 +1,4 @@
--- Clean modules.
+-- Clean modules, whose statements are Set, Barrier, If and Return; each further kind of statement adds its own cases.
 use Rattle.std.specs.Prelude.{◌≡◌, ℕ, true, List, Some, slice_get}
 use Rattle.shade_base.specs.declared.severity.Severity.{Severity}
 use Rattle.shade_base.specs.declared.severity.Severity.TheVariants.{Off}

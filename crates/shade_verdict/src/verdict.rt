@@ -114,10 +114,10 @@ fn add_function(
 ///
 /// Each has the least path to the non-uniform node. Takes time and memory in the order of the graph of each function,
 /// and of one search through it for each violation. Functions have numbers of 32 bits, as the nodes of a graph do.
-pub fn violations_of(alloc: Global, module: &CoreModule) -> Result<Vec<Violation>, AllocError>
-    ensures { IfOk result (λ violations. AreViolations module.now.functions violations.items) }
+pub fn violations_of(alloc: Global, checked: &CoreModule) -> Result<Vec<Violation>, AllocError>
+    ensures { IfOk result (λ violations. AreViolations checked.now.functions violations.items) }
 {
-    let functions = module.functions.as_slice();
+    let functions = checked.functions.as_slice();
     if functions.len() > u32::MAX as usize {
         return Err(AllocError);
     }
