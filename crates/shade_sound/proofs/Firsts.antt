@@ -1,5 +1,5 @@
 -- Clean shaders of the first form are flat, and their lanes begin owing one list.
-use Rattle.std.proofs.Common.{◌≡◌, refl, sym, ◌∙◌, ap, ap₂, subst, ℕ, zero, suc, ◌+◌, ◌*◌, ◌<◌, arith, ◌⊎◌, inl, inr, true, false, Bool, List, [], ◌∷◌, ◌++◌, map, length, Option, Some, None}
+use Rattle.std.proofs.Common.{◌≡◌, refl, sym, ◌∙◌, ap, ap₂, subst, ℕ, zero, suc, ◌+◌, ◌*◌, ◌<◌, ◌≤◌, ◌&&◌, arith, ◌⊎◌, inl, inr, true, false, Bool, List, [], ◌∷◌, ◌++◌, map, length, Option, Some, None}
 use Rattle.std.specs.Prelude.{if◌then◌else◌, is_some, slice_get, IsSome}
 use Rattle.std.proofs.lemmas.List.{append-nil, append_cancel_left}
 use Rattle.shade_base.specs.declared.place.Place.{Place}
@@ -33,10 +33,10 @@ use Rattle.shade_first.specs.Lowering.{Lowers, function_of, condition, barrier, 
 use Rattle.shade_first.specs.FirstForm.{StandsFor}
 use Rattle.shade_mem.specs.declared.inputs.Inputs.{Inputs}
 use Rattle.shade_lane.specs.declared.builtins.Builtins.{Builtins}
-use Rattle.shade_lane.specs.Lane.{Rest, halt, seq}
+use Rattle.shade_lane.specs.Lane.{Rest, halt, seq, runs, ends_in_return}
 use Rattle.shade_lane.specs.Members.{Member, begin_member, is_ended}
-use Rattle.shade_group.specs.Group.{Machine, builtins_of, lane_count, members_from, sized_members, entry_members, begin, run, trace}
-use Rattle.shade_sound.specs.Laws.{CleanWithoutViolations, NeverDiverges, TracesAgree, IsPrefixOf, has_ended}
+use Rattle.shade_group.specs.Group.{Machine, entry_runs, builtins_of, lane_count, members_from, sized_members, entry_members, begin, run, trace}
+use Rattle.shade_sound.specs.Laws.{CleanWithoutViolations, FirstFormRuns, NeverDiverges, TracesAgree, IsPrefixOf, has_ended}
 use Rattle.shade_sound.proofs.Owed.{owed, owed_rest, Moves, moves, steady_flat}
 use Rattle.shade_sound.proofs.Runs.{Meets, AllMeet, Good, run_good, owed_of, owed_at, trace_owes, has, run_has, ended_owes_none}
 use Rattle.shade_sound.proofs.Regions.{Items, none, meet, split, Flat, flat_return, Reaches, flat, whole_within}
@@ -124,6 +124,28 @@ no_off none ends h = ends h
 no_off (meet i) ends h = elim (off_cases h) [ inl bad ↦ bad | inr behind_ ↦ no_off i ends behind_ ]
 no_off (split i j) ends h =
     elim (off_cases h) [ inl bad ↦ bad | inr behind_ ↦ elim (off_cases behind_) [ inl inner ↦ no_off i off_cases inner | inr more ↦ elim more [ inl other ↦ off_cases other | inr rest ↦ no_off j ends rest ] ] ]
+
+-- ---- the machine runs what the form has
+
+items_run : {n : ℕ} {tail c : Code} → Items n tail c → runs tail ≡ true → runs c ≡ true
+items_run none h = h
+items_run (meet i) h = items_run i h
+items_run (split i j) h = ap₂ (λ a b. a && (true && b)) (items_run i refl) (items_run j h)
+
+items_end : {n : ℕ} {tail c : Code} → Items n tail c → ends_in_return tail ≡ true → ends_in_return c ≡ true
+items_end none h = h
+items_end (meet i) h = items_end i h
+items_end (split i j) h = items_end j h
+
+pub runnable : FirstFormRuns
+runnable text shader stands =
+    let s : FirstShader = stands.shader in
+    let one : CoreFunction = function_of s stands.stands.statements stands.stands.next in
+    let items : Items 0 (jump stands.stands.next (Return None) done) (code_of one.body) = body_items s stands.stands.statements stands.stands.next stands.stands.lowered in
+    let least : 1 ≤ s.size = stands.spells.spelled.lanes.least in
+    let most : s.size ≤ 256 = stands.spells.spelled.lanes.most in
+    let body : entry_runs (Some one) = (omega arith, omega arith, items_run items refl, items_end items refl) in
+    record { body = subst (λ (o : Option CoreFunction). entry_runs o) (sym (ap (λ fs. slice_get fs 0) stands.stands.functions)) body }
 
 none_among : {v : Violation} → Among v [] → ⊥
 none_among h = nothing h refl where

@@ -7,11 +7,15 @@ use Rattle.shade_verdict.specs.Clean.{IsClean}
 use Rattle.shade_first.specs.FirstForm.{StandsFor}
 use Rattle.shade_mem.specs.declared.inputs.Inputs.{Inputs}
 use Rattle.shade_lane.specs.Members.{Member, is_ended}
-use Rattle.shade_group.specs.Group.{Machine, begin, run, trace}
+use Rattle.shade_group.specs.Group.{Machine, IsRunnable, begin, run, trace}
 
 -- A shader of the first form whose violations are the empty list is clean.
 abbrev pub CleanWithoutViolations : Type 0
 CleanWithoutViolations = (text : List ℕ) (shader : CoreModule) → StandsFor text shader → AreViolations shader.functions [] → IsClean shader.functions
+
+-- The machine runs each shader of the first form, whose one function is its entry.
+abbrev pub FirstFormRuns : Type 0
+FirstFormRuns = (text : List ℕ) (shader : CoreModule) → StandsFor text shader → IsRunnable shader 0
 
 -- No run of a clean shader has diverged.
 abbrev pub NeverDiverges : Type 0

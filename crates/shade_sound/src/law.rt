@@ -1,9 +1,14 @@
 // The headline: clean shaders converge at their barriers.
-ghost use Rattle.shade_sound.specs.Laws.{CleanWithoutViolations, NeverDiverges, TracesAgree};
+ghost use Rattle.shade_sound.specs.Laws.{CleanWithoutViolations, FirstFormRuns, NeverDiverges, TracesAgree};
 
 /// A shader of the first form for which a check tells no violation is clean.
 pub fn no_violation_is_clean()
     ensures { CleanWithoutViolations }
+{}
+
+/// The machine runs each shader of the first form.
+pub fn first_form_runs()
+    ensures { FirstFormRuns }
 {}
 
 /// Whichever lanes are stepped, the lanes of a clean shader of the first form never diverge at a barrier.

@@ -3,4 +3,4 @@
 
 mod law;
 
-pub use law::{clean_never_diverges, clean_traces_agree, no_violation_is_clean};
+pub use law::{clean_never_diverges, clean_traces_agree, first_form_runs, no_violation_is_clean};
