@@ -16,6 +16,32 @@ use std::alloc::Global;
 // At most so many braces are open at once.
 const MOST_BRACES: u32 = 127;
 
+const OPENING: [Step; 5] = [
+    Step::Mark(Mark::At),
+    Step::Word(b"compute"),
+    Step::Mark(Mark::At),
+    Step::Word(b"workgroup_size"),
+    Step::Mark(Mark::Open),
+];
+
+const BEFORE_NAME: [Step; 2] = [Step::Mark(Mark::Close), Step::Word(b"fn")];
+
+const BEFORE_PARAMETER: [Step; 6] = [
+    Step::Mark(Mark::Open),
+    Step::Mark(Mark::At),
+    Step::Word(b"builtin"),
+    Step::Mark(Mark::Open),
+    Step::Word(b"local_invocation_index"),
+    Step::Mark(Mark::Close),
+];
+
+const BEFORE_BODY: [Step; 4] = [
+    Step::Mark(Mark::Colon),
+    Step::Word(b"u32"),
+    Step::Mark(Mark::Close),
+    Step::Mark(Mark::OpenBrace),
+];
+
 /// Reads a shader from a place on, and says where it ends.
 pub fn shader(
     alloc: Global,
@@ -26,43 +52,13 @@ pub fn shader(
     requires words { AreWords tokens.now }
     ensures { MatchResult result (λ p. Reads Shader tokens.now from p.0 p.1) (λ f. Faults Shader tokens.now from f) }
 {
-    let at = fixed(
-        tokens,
-        from,
-        &[
-            Step::Mark(Mark::At),
-            Step::Word(b"compute"),
-            Step::Mark(Mark::At),
-            Step::Word(b"workgroup_size"),
-            Step::Mark(Mark::Open),
-        ],
-    )?;
+    let at = fixed(tokens, from, &OPENING)?;
     let (size, at) = lanes(tokens, at)?;
-    let at = fixed(tokens, at, &[Step::Mark(Mark::Close), Step::Word(b"fn")])?;
+    let at = fixed(tokens, at, &BEFORE_NAME)?;
     let (name, place, at) = declared(tokens, at)?;
-    let at = fixed(
-        tokens,
-        at,
-        &[
-            Step::Mark(Mark::Open),
-            Step::Mark(Mark::At),
-            Step::Word(b"builtin"),
-            Step::Mark(Mark::Open),
-            Step::Word(b"local_invocation_index"),
-            Step::Mark(Mark::Close),
-        ],
-    )?;
+    let at = fixed(tokens, at, &BEFORE_PARAMETER)?;
     let (parameter, _, at) = declared(tokens, at)?;
-    let at = fixed(
-        tokens,
-        at,
-        &[
-            Step::Mark(Mark::Colon),
-            Step::Word(b"u32"),
-            Step::Mark(Mark::Close),
-            Step::Mark(Mark::OpenBrace),
-        ],
-    )?;
+    let at = fixed(tokens, at, &BEFORE_BODY)?;
     let (items, end, next) = block(alloc, tokens, at, parameter.as_slice(), 1)?;
     Ok((
         FirstShader {
