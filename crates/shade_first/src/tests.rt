@@ -1,103 +1,78 @@
 use crate::{FirstFault, first_form};
 use shade_core::{Act, CoreStatement, Statements};
 use std::alloc::{AllocError, Global};
+use std::process::Abort;
 use std::test::Fail;
 
+const PARAMETERS: &str = "(@builtin(local_invocation_index) i: u32) {";
+
+fn leaves(rt: &impl Abort, alloc: Global, parts: &[&str], offset: u32) -> Result<(), AllocError> {
+    let mut text = String::new(alloc);
+    for part in parts {
+        text.push_str(part)?;
+    }
+    let answer = first_form(alloc, text.as_bytes());
+    assert!(rt; matches!(&answer, Err(FirstFault::NotYet(at)) if *at == offset));
+    Ok(())
+}
+
 #[test]
-fn leaves_the_form(rt: HostRuntime) {
-    let table: [(&str, u32); 24] = [
+fn leaves_the_form_in_the_head(rt: HostRuntime) -> Result<(), Fail> {
+    let alloc = rt.alloc();
+    let texts = [
         ("", 0),
         ("@comput", 1),
         ("@compute @workgroup_size(2)\n", 28),
         ("@compute @workgroup_size(1)\nfn main() {}\n", 36),
-        (
-            "@compute @workgroup_size(0)\nfn main(@builtin(local_invocation_index) i: u32) {}",
-            25,
-        ),
-        (
-            "@compute @workgroup_size(257)\nfn main(@builtin(local_invocation_index) i: u32) {}",
-            25,
-        ),
-        (
-            "@compute @workgroup_size(2u)\nfn main(@builtin(local_invocation_index) i: u32) {}",
-            25,
-        ),
-        (
-            "@compute @workgroup_size(02)\nfn main(@builtin(local_invocation_index) i: u32) {}",
-            25,
-        ),
-        (
-            "@compute @workgroup_size(4294967297)\nfn main(@builtin(local_invocation_index) i: u32) {}",
-            25,
-        ),
-        (
-            "@compute @workgroup_size(2)\nfn loop(@builtin(local_invocation_index) i: u32) {}",
-            31,
-        ),
-        (
-            "@compute @workgroup_size(2)\nfn max(@builtin(local_invocation_index) i: u32) {}",
-            31,
-        ),
-        (
-            "@compute @workgroup_size(2)\nfn _f(@builtin(local_invocation_index) i: u32) {}",
-            31,
-        ),
-        (
-            "@compute @workgroup_size(2)\nfn f(@builtin(local_invocation_index) vec2: u32) {}",
-            66,
-        ),
-        (
-            "@compute @workgroup_size(2)\nfn main(@builtin(local_invocation_index) i: u32) {if (j < 1u) {}}",
-            82,
-        ),
-        (
-            "@compute @workgroup_size(2)\nfn main(@builtin(local_invocation_index) i: u32) {if (i < 1) {}}",
-            86,
-        ),
-        (
-            "@compute @workgroup_size(2)\nfn main(@builtin(local_invocation_index) i: u32) {if (i < 01u) {}}",
-            86,
-        ),
-        (
-            "@compute @workgroup_size(2)\nfn main(@builtin(local_invocation_index) i: u32) {if (i < 4294967296u) {}}",
-            86,
-        ),
-        (
-            "@compute @workgroup_size(2)\nfn main(@builtin(local_invocation_index) i: u32) {if (i < 1ub) {}}",
-            88,
-        ),
-        (
-            "@compute @workgroup_size(2)\nfn main(@builtin(local_invocation_index) i: u32) {workgroupBarrier()}",
-            96,
-        ),
-        (
-            "@compute @workgroup_size(2)\nfn main(@builtin(local_invocation_index) i: u32) {storageBarrier();}",
-            78,
-        ),
-        (
-            "@compute @workgroup_size(2)\nfn main(@builtin(local_invocation_index) i: u32) {workgroupBarrier();} }",
-            99,
-        ),
-        (
-            "@compute @workgroup_size(2)\nfn main(@builtin(local_invocation_index) i: u32) {é}",
-            78,
-        ),
-        (
-            "@compute @workgroup_size(2)\nfn main(@builtin(local_invocation_index) i: u32) {workgroupBarrier();",
-            97,
-        ),
-        (
-            "@compute @workgroup_size(2)\nfn main(@builtin(local_invocation_index) i: u32) {if (i < 1u) {}",
-            92,
-        ),
     ];
-    for (text, offset) in table {
-        let answer = first_form(rt.alloc(), text.as_bytes());
-        assert!(rt;
-            matches!(&answer, Err(FirstFault::NotYet(at)) if *at == offset),
-            "{text}"
-        );
+    for (text, offset) in texts {
+        leaves(&rt, alloc, &[text], offset)?;
     }
+    for lanes in ["0", "257", "2u", "02", "4294967297"] {
+        let parts = [
+            "@compute @workgroup_size(",
+            lanes,
+            ")\nfn main",
+            PARAMETERS,
+            "}",
+        ];
+        leaves(&rt, alloc, &parts, 25)?;
+    }
+    for name in ["loop", "max", "_f"] {
+        let parts = ["@compute @workgroup_size(2)\nfn ", name, PARAMETERS, "}"];
+        leaves(&rt, alloc, &parts, 31)?;
+    }
+    let parameter = "fn f(@builtin(local_invocation_index) vec2: u32) {}";
+    leaves(
+        &rt,
+        alloc,
+        &["@compute @workgroup_size(2)\n", parameter],
+        66,
+    )?;
+    Ok(())
+}
+
+#[test]
+fn leaves_the_form_in_the_body(rt: HostRuntime) -> Result<(), Fail> {
+    let alloc = rt.alloc();
+    let bodies = [
+        ("if (j < 1u) {}}", 82),
+        ("if (i < 1) {}}", 86),
+        ("if (i < 01u) {}}", 86),
+        ("if (i < 4294967296u) {}}", 86),
+        ("if (i < 1ub) {}}", 88),
+        ("workgroupBarrier()}", 96),
+        ("storageBarrier();}", 78),
+        ("workgroupBarrier();} }", 99),
+        ("é}", 78),
+        ("workgroupBarrier();", 97),
+        ("if (i < 1u) {}", 92),
+    ];
+    for (body, offset) in bodies {
+        let parts = ["@compute @workgroup_size(2)\nfn main", PARAMETERS, body];
+        leaves(&rt, alloc, &parts, offset)?;
+    }
+    Ok(())
 }
 
 // The statements one after another: the number of each, its place and what it does.
