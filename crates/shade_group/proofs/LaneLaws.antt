@@ -126,6 +126,10 @@ event_able g lanes n l after result seen h is calm able moves settles =
     ∙ (ap (λ ms. settled_event n (moved (member_of l)).state (record (counted g) { members = ms })) members
     ∙ sym (ap (λ o. event_of n o g) found ∙ ap (λ b. event_by b n (member_of l) g) does)))
 
+pub and_both : (a b : Bool) → (a && b) ≡ true → (a ≡ true) × (b ≡ true)
+and_both true b e = (refl, e)
+and_both false b e = cc
+
 -- a step of a lane that may not step, or after a divergence
 and_not : (a b : Bool) → (a ≡ false) ⊎ (b ≡ false) → (a && b) ≡ false
 and_not false b h = refl
