@@ -1,13 +1,12 @@
 -- Lists of statements that have a case, statement by statement.
-use Rattle.std.proofs.Common.{◌≡◌, refl, sym, ap, ◌∙◌, Bool, true, false, ◌&&◌, ℕ, ◌+◌, ◌<◌, List, [], ◌∷◌, length, get_or, drop, Option}
-use Rattle.shade_values.specs.declared.op.Op.{Op}
+use Rattle.std.proofs.Common.{◌≡◌, refl, sym, ap, ◌∙◌, Bool, true, false, ◌&&◌, ℕ, ◌+◌, ◌<◌, List, [], ◌∷◌, length, get_or, drop}
 use Rattle.shade_core.specs.declared.statement.Operand.{Operand}
 use Rattle.shade_core.specs.declared.statement.CoreStatement.{CoreStatement}
 use Rattle.shade_core.specs.declared.statement.SwitchPart.{SwitchPart}
 use Rattle.shade_core.specs.declared.statement.Act.{Act, Act-F, out-Act}
 use Rattle.shade_core.specs.declared.statement.Act.TheOpen as act
 use Rattle.shade_core.specs.declared.statement.Act.TheVariants as variant
-use Rattle.shade_core.specs.Code.{Code, Return, Jump, done, plain, jump, act_before, act_code, statement_code, code_of}
+use Rattle.shade_core.specs.Code.{Code, done, act_before, act_code, statement_code, code_of}
 use Rattle.shade_core.proofs.CodeLaws.{layer, act_is, statement_is, drop_here}
 use Rattle.shade_lane.specs.Lane.{runs, ends_in_return}
 

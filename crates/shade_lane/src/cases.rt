@@ -2,9 +2,9 @@
 
 ghost use Rattle.std.specs.Prelude.{◌≡◌};
 ghost use Rattle.shade_core.specs.Code.{act_code, code_of, done};
-ghost use Rattle.shade_lane.specs.Lane.{ends_in_return as ends_in_return_of, is_known as is_known_of, runs as runs_of};
+ghost use Rattle.shade_lane.specs.Lane.{ends_in_return as ends_in_return_of, is_atomic as is_atomic_of, runs as runs_of};
 
-use shade_core::{Act, CoreStatement, Operand};
+use shade_core::{Act, CoreStatement};
 use shade_values::Op;
 use sqlite_items::Items;
 
@@ -27,21 +27,31 @@ fn act_runs(act: &Act) -> bool
     ensures { result ≡ runs_of (act_code act.now 0 done) }
 {
     match act {
-        Act::Set { op, args } => is_known(*op, args.as_slice()),
+        Act::Set { op, .. } => !is_atomic(*op),
         Act::Barrier { .. } | Act::Return { .. } => true,
         Act::If { yes, no, .. } => runs(yes) && runs(no),
         _ => false,
     }
 }
 
-/// Whether an operation on these operands has a case.
-fn is_known(op: Op, args: &[Operand]) -> bool
-    ensures { result ≡ is_known_of op args.now }
+/// Whether an operation is one on an atomic in memory.
+fn is_atomic(op: Op) -> bool
+    ensures { result ≡ is_atomic_of op }
 {
-    match (op, args) {
-        (Op::Less, [_, _]) => true,
-        _ => false,
-    }
+    matches!(
+        op,
+        Op::AtomicLoad
+            | Op::AtomicStore
+            | Op::AtomicAdd
+            | Op::AtomicSub
+            | Op::AtomicMax
+            | Op::AtomicMin
+            | Op::AtomicAnd
+            | Op::AtomicOr
+            | Op::AtomicXor
+            | Op::AtomicExchange
+            | Op::AtomicCompareExchangeWeak
+    )
 }
 
 /// Whether a list of statements without a call, a switch or a loop ends in a return. Takes no memory.

@@ -140,8 +140,15 @@ impl<'m> Lane<'m> {
         ensures ok { OnOk result (member_of self.new ≡ went (later_of self.old.lists ∷ below_of self.old.lists) (put (slot_value self.old.slots) number (applied_of op (map (value_of self.old.params (slot_value self.old.slots)) args.now))) (member_of self.old)) }
         ensures err { OnErr result (member_of self.new ≡ member_of self.old) }
     {
+        let alloc = *self.slots.allocator();
+        let value = applied(
+            alloc,
+            op,
+            args,
+            self.params.as_slice(),
+            self.slots.as_slice(),
+        )?;
         grow(&mut self.slots, number)?;
-        let value = applied(op, args, self.params.as_slice(), self.slots.as_slice());
         place(&mut self.slots, number, value);
         self.rest.pass();
         Ok(())
