@@ -26,8 +26,8 @@ fn statement(number: u32, act: Act) -> CoreStatement {
     }
 }
 
-/// `fn main(index) { if (index < 1) { barrier } return }`, of two lanes.
-fn module_of(alloc: Global) -> Result<CoreModule, AllocError>
+/// `fn main(index) { if (index op 1) { barrier } return }`, of two lanes.
+fn module_of(alloc: Global, op: Op) -> Result<CoreModule, AllocError>
     ensures roots { IfOk result (λ m. m.roots ≡ []) }
     ensures entry { IfOk result (λ m. 0 < length m.functions) }
 {
@@ -47,7 +47,7 @@ fn module_of(alloc: Global) -> Result<CoreModule, AllocError>
     let cond = Operand::Temp(0);
     let no = Items::new(alloc);
     let mut body = Items::new(alloc);
-    body.push(statement(0, Act::Set { op: Op::Less, args }))?;
+    body.push(statement(0, Act::Set { op, args }))?;
     body.push(statement(1, Act::If { cond, yes, no }))?;
     body.push(statement(3, Act::Return { value: None }))?;
     let mut params = Items::new(alloc);
@@ -93,18 +93,22 @@ fn is_able(lane: &Lane) -> bool
 #[test]
 fn lanes_of_two_parts(rt: HostRuntime) -> Result<(), Fail> {
     let alloc = rt.alloc();
-    let module = module_of(alloc)?;
-    let mut memory = Memory::begin(alloc, &module, &Items::new(alloc))?;
-    let rows = [(0, LaneEvent::Arrives), (1, LaneEvent::Ended)];
-    for (number, third) in rows {
+    let rows = [
+        (Op::Less, 0, LaneEvent::Arrives),
+        (Op::Less, 1, LaneEvent::Ended),
+        (Op::GreaterEqual, 0, LaneEvent::Ended),
+        (Op::GreaterEqual, 1, LaneEvent::Arrives),
+    ];
+    for (op, number, third) in rows {
+        let module = module_of(alloc, op)?;
+        let mut memory = Memory::begin(alloc, &module, &Items::new(alloc))?;
         let mut lane = Lane::begin(alloc, &module, 0, &builtins(number))?;
         for event in [LaneEvent::Ran(None), LaneEvent::Ran(None), third] {
             assert!(rt; is_able(&lane));
-            assert_eq!(rt; lane.step(&mut memory)?, event, "{number}");
+            assert_eq!(rt; lane.step(&mut memory)?, event, "{op:?} {number}");
         }
         if let LaneState::Waiting(_, instance) = lane.state() {
             assert_eq!(rt; instance.as_slice(), [0, 2, 0].as_slice());
-            assert_eq!(rt; number, 0);
         }
     }
     Ok(())
