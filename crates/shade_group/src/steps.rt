@@ -221,14 +221,13 @@ impl<'m> Group<'m> {
     fn release(&mut self, number: u32) -> GroupEvent
         requires room { vec_len self.old.released < vec_capacity self.old.released }
         requires within { number < length self.old.lanes.items }
-        requires waits { is_waiting_of (state_at self.old.lanes.items number) ≡ true }
+        requires wait { all_wait_of (machine_of self.old).members ≡ true }
         ensures machine { machine_of self.new ≡ release_by (state_at self.old.lanes.items number) (machine_of self.old) }
         ensures event { result ≡ released_event (length self.old.released.items) }
         ensures lanes { length self.new.lanes.items ≡ length self.old.lanes.items }
     {
         let count = self.released.len() as u64;
-        if let LaneState::Waiting(space, instance) = self.lanes[number as usize].resume() {
-            free(&mut self.lanes);
+        if let LaneState::Waiting(space, instance) = free(&mut self.lanes, number) {
             self.epochs = raised(self.epochs, space);
             let _ = self.released.push(instance);
         }
