@@ -1,0 +1,6 @@
+pub mod BestLaws
+pub mod Conversions
+pub mod PatternLaws
+pub mod MemoryLaws
+pub mod VectorLaws
+pub mod RowLaws

@@ -1,0 +1,4 @@
+pub mod Best
+pub mod Conversions
+pub mod Patterns
+pub mod Rows
