@@ -4,3 +4,4 @@ pub mod PatternLaws
 pub mod MemoryLaws
 pub mod VectorLaws
 pub mod RowLaws
+pub mod OneBest

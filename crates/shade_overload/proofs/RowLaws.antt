@@ -39,11 +39,11 @@ abbrev pub OnPattern : Table → Builtin → Option (Op × Pattern) → Type 0
 OnPattern t b None = AreSame (IsRow t b) (IsRow t b)
 OnPattern t b (Some (o, p)) = AreSame (PatternRows o p) (IsRow t b)
 
-operator_is : (t : Table) (b : Builtin) → OnPattern t b (operator b)
+pub operator_is : (t : Table) (b : Builtin) → OnPattern t b (operator b)
 operator_is t Add = λ o. (λ h. h, λ h. h)
 operator_is t _ = λ o. (λ h. h, λ h. h)
 
-function_is : (t : Table) (b : Builtin) → OnPattern t b (function b)
+pub function_is : (t : Table) (b : Builtin) → OnPattern t b (function b)
 function_is t I32 = converted t scalar.I32 (λ e. absurd (cc))
 function_is t U32 = converted t scalar.U32 (λ e. absurd (cc))
 function_is t Bool = converted t scalar.Bool (λ e. absurd (cc))

@@ -4,6 +4,7 @@
 pub mod builtin;
 mod choice;
 mod conversion;
+pub mod law;
 mod memory;
 pub mod overload;
 pub mod params;
