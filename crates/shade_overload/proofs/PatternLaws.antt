@@ -11,7 +11,7 @@ use Rattle.shade_overload.specs.declared.pattern.Pattern.TheVariants.{Arithmetic
 use Rattle.shade_overload.specs.declared.overload.Overload.{Overload}
 use Rattle.shade_overload.specs.Best.{IsBest, IsRefused, IsChosen}
 use Rattle.shade_overload.specs.Conversions.{Becomes, BecomeAll, scalar_of, distance, distance_of, AreNearer}
-use Rattle.shade_overload.specs.Patterns.{Fits, PatternRow, PatternRows, kind_of, Allows, params_of, gives_of, made, Takes, IsNearest, IsFound, HasForm, BeginsWith, EndsIn}
+use Rattle.shade_overload.specs.Patterns.{Fits, PatternRow, PatternRows, kind_of, Allows, params_of, gives_of, made, Suits, IsNearest, IsFound, HasForm, BeginsWith, EndsIn}
 
 -- ---- forms
 
@@ -276,7 +276,7 @@ pub is_allowed : (op : Op) (p : Pattern) (f g : Option ℕ) (types : List ShadeT
 is_allowed op p f g types begins ends none o row taken = none (row_for op p f g types o begins ends row taken).allowed
 
 nearest_best : (op : Op) (p : Pattern) (f g : Option ℕ) (first : Scalar) (types : List ShadeType) (o : Overload) → BeginsWith types f → EndsIn types g → Allows p f g
-    → IsNearest (made op p f g) (Takes p f g types) first o → IsBest (PatternRows op p) first types o
+    → IsNearest (made op p f g) (Suits p f g types) first o → IsBest (PatternRows op p) first types o
 nearest_best op p f g first types o begins ends allowed n =
     subst (IsBest (PatternRows op p) first types) (sym n.is) (record {
       row = (refl, row_made p f g n.scalar allowed n.takes.0);
@@ -288,7 +288,7 @@ nearest_best op p f g first types o begins ends allowed n =
     })
 
 pub found_chosen : (op : Op) (p : Pattern) (f g : Option ℕ) (first : Scalar) (types : List ShadeType) (r : Option Overload) → BeginsWith types f → EndsIn types g → Allows p f g
-    → IsFound (made op p f g) (Takes p f g types) first r → IsChosen (PatternRows op p) first types r
+    → IsFound (made op p f g) (Suits p f g types) first r → IsChosen (PatternRows op p) first types r
 found_chosen op p f g first types (Some o) begins ends allowed n = nearest_best op p f g first types o begins ends allowed n
 found_chosen op p f g first types None begins ends allowed none = λ o row taken.
     let q = row_for op p f g types o begins ends row taken in

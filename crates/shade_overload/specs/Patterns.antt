@@ -112,8 +112,8 @@ abbrev pub made : Op → Pattern → Option ℕ → Option ℕ → Scalar → Ov
 made op p f g s = record { op = Some op; params = params_of p f g s; result = Some (gives_of p f g s) }
 
 -- the pattern has the scalar, and the types become its parameters
-abbrev pub Takes : Pattern → Option ℕ → Option ℕ → List ShadeType → Scalar → Type 0
-Takes p f g types s = Fits (kind_of p) s × BecomeAll types (params_of p f g s)
+abbrev pub Suits : Pattern → Option ℕ → Option ℕ → List ShadeType → Scalar → Type 0
+Suits p f g types s = Fits (kind_of p) s × BecomeAll types (params_of p f g s)
 
 -- what the code makes of one scalar, if that takes the types
 abbrev pub IsAttempt : (Scalar → Overload) → (Scalar → Type 0) → Scalar → Option Overload → Type 0

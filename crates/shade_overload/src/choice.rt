@@ -2,7 +2,7 @@
 
 ghost use Rattle.std.specs.Prelude.{◌≡◌, ◌≤◌, ℕ, Option, IfSome, IfNone};
 ghost use Rattle.shade_overload.specs.Best.{IsChosen};
-ghost use Rattle.shade_overload.specs.Patterns.{PatternRows, IsAttempt, IsFound, made, Takes, by_distance, BeginsWith, EndsIn};
+ghost use Rattle.shade_overload.specs.Patterns.{PatternRows, IsAttempt, IsFound, made, Suits, by_distance, BeginsWith, EndsIn};
 
 use crate::conversion::{all_become, form_of};
 use crate::overload::Overload;
@@ -29,7 +29,7 @@ fn attempt(
     scalar: Scalar,
     types: &[ShadeType],
 ) -> Option<Overload>
-    ensures { IsAttempt (made op pattern forms.0 forms.1) (Takes pattern forms.0 forms.1 types.now) scalar result }
+    ensures { IsAttempt (made op pattern forms.0 forms.1) (Suits pattern forms.0 forms.1 types.now) scalar result }
 {
     let (first, last) = forms;
     if !pattern.kind().has(scalar) {
@@ -55,7 +55,7 @@ fn nearest(
     first: Scalar,
     types: &[ShadeType],
 ) -> Option<Overload>
-    ensures { IsFound (made op pattern forms.0 forms.1) (Takes pattern forms.0 forms.1 types.now) first result }
+    ensures { IsFound (made op pattern forms.0 forms.1) (Suits pattern forms.0 forms.1 types.now) first result }
 {
     let scalars = by_distance(first);
     for scalar in &scalars {
