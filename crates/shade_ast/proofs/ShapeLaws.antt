@@ -5,7 +5,7 @@ use Rattle.std.proofs.lemmas.List.{get_or_append_left, append-nil}
 use Rattle.shade_base.specs.declared.place.Place.{Place}
 use Rattle.shade_ast.specs.declared.expr.Named.{Named}
 use Rattle.shade_ast.specs.declared.expr.Expr.{Expr, Expr-F, map-Expr, fold-roll-Expr, ind-Expr}
-use Rattle.shade_ast.specs.declared.expr.ExprKind.{ExprKind, ExprKind-F, map-ExprKind, fold-roll-ExprKind, fold-ExprKind}
+use Rattle.shade_ast.specs.declared.expr.ExprKind.{ExprKind, ExprKind-F, map-ExprKind, fold-roll-ExprKind}
 use Rattle.shade_ast.specs.declared.expr.ExprKind.TheOpen as kind
 use Rattle.shade_ast.specs.declared.attr.Attr.{Attr}
 use Rattle.shade_ast.specs.declared.attr.AttrName.{AttrName}
@@ -22,13 +22,13 @@ use Rattle.shade_ast.specs.declared.stmt.Selector.{Selector}
 use Rattle.shade_ast.specs.declared.stmt.Selector.TheVariants as selector
 use Rattle.shade_ast.specs.declared.stmt.BreakIf.{BreakIf}
 use Rattle.shade_ast.specs.declared.stmt.Clause.TheOpen as open_stmt
-use Rattle.shade_ast.specs.declared.stmt.Clause.{Clause, Clause-F, map-Clause, fold-Clause, fold-roll-Clause}
-use Rattle.shade_ast.specs.declared.stmt.StmtKind.{StmtKind, StmtKind-F, map-StmtKind, fold-StmtKind, fold-roll-StmtKind}
-use Rattle.shade_ast.specs.declared.stmt.Arm.{Arm, Arm-F, map-Arm, fold-Arm, fold-roll-Arm}
-use Rattle.shade_ast.specs.declared.stmt.Block.{Block, Block-F, map-Block, fold-Block, fold-roll-Block, ind-Block}
-use Rattle.shade_ast.specs.declared.stmt.Continuing.{Continuing, Continuing-F, map-Continuing, fold-Continuing, fold-roll-Continuing}
-use Rattle.shade_ast.specs.declared.stmt.Otherwise.{Otherwise, Otherwise-F, map-Otherwise, fold-Otherwise, fold-roll-Otherwise}
-use Rattle.shade_ast.specs.declared.stmt.Stmt.{Stmt, Stmt-F, map-Stmt, fold-Stmt, fold-roll-Stmt, ind-Stmt}
+use Rattle.shade_ast.specs.declared.stmt.Clause.{Clause, Clause-F, map-Clause, fold-roll-Clause}
+use Rattle.shade_ast.specs.declared.stmt.StmtKind.{StmtKind, StmtKind-F, map-StmtKind, fold-roll-StmtKind}
+use Rattle.shade_ast.specs.declared.stmt.Arm.{Arm, Arm-F, map-Arm, fold-roll-Arm}
+use Rattle.shade_ast.specs.declared.stmt.Block.{Block, Block-F, map-Block, fold-roll-Block, ind-Block}
+use Rattle.shade_ast.specs.declared.stmt.Continuing.{Continuing, Continuing-F, map-Continuing, fold-roll-Continuing}
+use Rattle.shade_ast.specs.declared.stmt.Otherwise.{Otherwise, Otherwise-F, map-Otherwise, fold-roll-Otherwise}
+use Rattle.shade_ast.specs.declared.stmt.Stmt.{Stmt, Stmt-F, map-Stmt, fold-roll-Stmt, ind-Stmt}
 use Rattle.shade_ast.specs.declared.tree.Decl.{Decl}
 use Rattle.shade_ast.specs.declared.tree.DeclKind.{DeclKind}
 use Rattle.shade_ast.specs.declared.tree.DeclKind.TheVariants as decl
@@ -39,7 +39,7 @@ use Rattle.shade_ast.specs.declared.tree.FnResult.{FnResult}
 use Rattle.shade_ast.specs.declared.tree.Member.{Member}
 use Rattle.shade_ast.specs.declared.tree.Rule.{Rule}
 use Rattle.shade_ast.specs.declared.tree.Rule.TheVariants as rule
-use Rattle.shade_ast.specs.Shapes.{ExprShape, infixed, prefixed, member, index, call, template, named, paren, attr_name, assign, compound, phony, increment, decrement, call_alone, var_simple, const_simple, let_simple, update_simple, value_selector}
+use Rattle.shade_ast.specs.Shapes.{infixed, prefixed, member, index, call, template, named, paren, attr_name, assign, compound, phony, increment, decrement, call_alone, var_simple, const_simple, let_simple, update_simple, value_selector}
 use Rattle.shade_ast.specs.Shapes.{StmtShape, block_stmt, simple_stmt, return_stmt, assert_stmt, if_stmt, switch_stmt, loop_stmt, for_stmt, while_stmt, BlockShape, braces, ArmShapes, else_arm, else_if_arm, ClauseShapes, case_clause, default_clause, ContinuingShape, continuing_part}
 use Rattle.shade_ast.specs.Shapes.{alias_decl, const_decl, assert_decl, struct_decl, var_decl, override_decl, fn_decl, plain_rule, scoped_rule, diagnostic_directive, requires_directive, enable_directive}
 use Rattle.shade_ast.specs.Names.{Grows}
@@ -47,6 +47,8 @@ use Rattle.shade_ast.specs.Shaped.{name_shape, expr_shapes, kind_step, expr_step
 use Rattle.shade_ast.specs.Shaped.{stmt_shapes, clause_shapes, arm_shapes, maybe_continuing, clause_step, stmt_kind_step, arm_step, block_step, continuing_step, otherwise_step, stmt_step, stmt_shape, block_shape, member_shape, result_shape, decl_kind_shape, decl_shape, rule_shape, directive_kind_shape, directive_shape}
 use Rattle.shade_ast.specs.Needs.{most_of, maybe_of, named_needs, kind_needs, expr_layer_needs, expr_needs, attr_name_needs, arguments_need, attr_needs, attrs_need, var_space_needs, var_needs, binding_needs, update_needs, simple_needs, selector_needs, break_if_needs}
 use Rattle.shade_ast.specs.Needs.{clause_needs, stmt_kind_needs, arm_needs, block_layer_needs, continuing_needs, otherwise_needs, stmt_layer_needs, stmt_needs, block_needs, member_needs, result_needs, decl_kind_needs, decl_needs, rule_needs, directive_kind_needs, directive_needs}
+use Rattle.shade_ast.proofs.ExprLayers.{kind_shape, kind_count}
+use Rattle.shade_ast.proofs.StmtLayers.{clause_shaped, clause_count, stmt_kind_shaped, stmt_kind_count, arm_shaped, arm_count, block_shaped, block_count, continuing_shaped, continuing_count, otherwise_shaped, otherwise_count, stmt_shaped, stmt_count}
 
 module _ (names more : List (List ℕ)) where
   -- more names change nothing
@@ -63,12 +65,6 @@ module _ (names more : List (List ℕ)) where
 
   named_same : (n : Named) → Same named_needs name_shape n
   named_same n h = λ i. record { place = n.place; text = text_same n.name h i }
-
-  abbrev kind_shape : List (List ℕ) → ExprKind → Place → ExprShape
-  kind_shape ns = fold-ExprKind (Place → ExprShape) ExprShape (kind_step ns) expr_step
-
-  abbrev kind_count : ExprKind → ℕ
-  kind_count = fold-ExprKind ℕ ℕ kind_needs expr_layer_needs
 
   abbrev SameKind : ExprKind → Type 0
   SameKind = Same kind_count kind_shape
@@ -166,65 +162,23 @@ module _ (names more : List (List ℕ)) where
   break_if_same : (b : BreakIf) → Same break_if_needs break_if_shape b
   break_if_same b h = λ i. record { break_place = b.break_keyword; if_place = b.if_keyword; condition = expr_same b.condition h i }
 
-  abbrev clause_shaped : List (List ℕ) → Clause → ClauseShapes → ClauseShapes
-  clause_shaped ns = fold-Clause (ClauseShapes → ClauseShapes) (Place → StmtShape) (ArmShapes → ArmShapes) BlockShape ContinuingShape ArmShapes StmtShape (clause_step ns) (stmt_kind_step ns) (arm_step ns) (block_step ns) (continuing_step ns) otherwise_step stmt_step
-
-  abbrev clause_count : Clause → ℕ
-  clause_count = fold-Clause ℕ ℕ ℕ ℕ ℕ ℕ ℕ clause_needs stmt_kind_needs arm_needs block_layer_needs continuing_needs otherwise_needs stmt_layer_needs
-
   abbrev SameClause : Clause → Type 0
   SameClause = Same clause_count clause_shaped
-
-  abbrev stmt_kind_shaped : List (List ℕ) → StmtKind → Place → StmtShape
-  stmt_kind_shaped ns = fold-StmtKind (ClauseShapes → ClauseShapes) (Place → StmtShape) (ArmShapes → ArmShapes) BlockShape ContinuingShape ArmShapes StmtShape (clause_step ns) (stmt_kind_step ns) (arm_step ns) (block_step ns) (continuing_step ns) otherwise_step stmt_step
-
-  abbrev stmt_kind_count : StmtKind → ℕ
-  stmt_kind_count = fold-StmtKind ℕ ℕ ℕ ℕ ℕ ℕ ℕ clause_needs stmt_kind_needs arm_needs block_layer_needs continuing_needs otherwise_needs stmt_layer_needs
 
   abbrev SameStmtKind : StmtKind → Type 0
   SameStmtKind = Same stmt_kind_count stmt_kind_shaped
 
-  abbrev arm_shaped : List (List ℕ) → Arm → ArmShapes → ArmShapes
-  arm_shaped ns = fold-Arm (ClauseShapes → ClauseShapes) (Place → StmtShape) (ArmShapes → ArmShapes) BlockShape ContinuingShape ArmShapes StmtShape (clause_step ns) (stmt_kind_step ns) (arm_step ns) (block_step ns) (continuing_step ns) otherwise_step stmt_step
-
-  abbrev arm_count : Arm → ℕ
-  arm_count = fold-Arm ℕ ℕ ℕ ℕ ℕ ℕ ℕ clause_needs stmt_kind_needs arm_needs block_layer_needs continuing_needs otherwise_needs stmt_layer_needs
-
   abbrev SameArm : Arm → Type 0
   SameArm = Same arm_count arm_shaped
-
-  abbrev block_shaped : List (List ℕ) → Block → BlockShape
-  block_shaped ns = fold-Block (ClauseShapes → ClauseShapes) (Place → StmtShape) (ArmShapes → ArmShapes) BlockShape ContinuingShape ArmShapes StmtShape (clause_step ns) (stmt_kind_step ns) (arm_step ns) (block_step ns) (continuing_step ns) otherwise_step stmt_step
-
-  abbrev block_count : Block → ℕ
-  block_count = fold-Block ℕ ℕ ℕ ℕ ℕ ℕ ℕ clause_needs stmt_kind_needs arm_needs block_layer_needs continuing_needs otherwise_needs stmt_layer_needs
 
   abbrev SameBlock : Block → Type 0
   SameBlock = Same block_count block_shaped
 
-  abbrev continuing_shaped : List (List ℕ) → Continuing → ContinuingShape
-  continuing_shaped ns = fold-Continuing (ClauseShapes → ClauseShapes) (Place → StmtShape) (ArmShapes → ArmShapes) BlockShape ContinuingShape ArmShapes StmtShape (clause_step ns) (stmt_kind_step ns) (arm_step ns) (block_step ns) (continuing_step ns) otherwise_step stmt_step
-
-  abbrev continuing_count : Continuing → ℕ
-  continuing_count = fold-Continuing ℕ ℕ ℕ ℕ ℕ ℕ ℕ clause_needs stmt_kind_needs arm_needs block_layer_needs continuing_needs otherwise_needs stmt_layer_needs
-
   abbrev SameContinuing : Continuing → Type 0
   SameContinuing = Same continuing_count continuing_shaped
 
-  abbrev otherwise_shaped : List (List ℕ) → Otherwise → ArmShapes
-  otherwise_shaped ns = fold-Otherwise (ClauseShapes → ClauseShapes) (Place → StmtShape) (ArmShapes → ArmShapes) BlockShape ContinuingShape ArmShapes StmtShape (clause_step ns) (stmt_kind_step ns) (arm_step ns) (block_step ns) (continuing_step ns) otherwise_step stmt_step
-
-  abbrev otherwise_count : Otherwise → ℕ
-  otherwise_count = fold-Otherwise ℕ ℕ ℕ ℕ ℕ ℕ ℕ clause_needs stmt_kind_needs arm_needs block_layer_needs continuing_needs otherwise_needs stmt_layer_needs
-
   abbrev SameOtherwise : Otherwise → Type 0
   SameOtherwise = Same otherwise_count otherwise_shaped
-
-  abbrev stmt_shaped : List (List ℕ) → Stmt → StmtShape
-  stmt_shaped ns = fold-Stmt (ClauseShapes → ClauseShapes) (Place → StmtShape) (ArmShapes → ArmShapes) BlockShape ContinuingShape ArmShapes StmtShape (clause_step ns) (stmt_kind_step ns) (arm_step ns) (block_step ns) (continuing_step ns) otherwise_step stmt_step
-
-  abbrev stmt_count : Stmt → ℕ
-  stmt_count = fold-Stmt ℕ ℕ ℕ ℕ ℕ ℕ ℕ clause_needs stmt_kind_needs arm_needs block_layer_needs continuing_needs otherwise_needs stmt_layer_needs
 
   abbrev SameStmt : Stmt → Type 0
   SameStmt = Same stmt_count stmt_shaped
