@@ -1,5 +1,5 @@
 -- Trees built by hand, with the tokens that they spell.
-use Rattle.std.proofs.Common.{◌≡◌, refl, sym, ◌∙◌, subst, ℕ, true, false, List, [], ◌∷◌, codes, None, Some}
+use Rattle.std.proofs.Common.{ap, ◌≡◌, refl, sym, ◌∙◌, subst, ℕ, true, false, List, [], ◌∷◌, ◌++◌, codes, None, Some}
 use Rattle.shade_base.specs.declared.place.Place.{Place}
 use Rattle.shade_lex.specs.declared.token.Suffix.TheVariants as suffix
 use Rattle.shade_ast.specs.declared.lexeme.Keyword.TheVariants as word
@@ -15,6 +15,8 @@ use Rattle.shade_ast.specs.Statements.{of_type, var_space, var, no_mark, some_ma
 use Rattle.shade_ast.specs.Declarations.{Module, assertion, variable, whole}
 use Rattle.shade_ast.specs.Spells.{Spells}
 use Rattle.shade_ast.specs.Samples.{first_line, assert_lexemes, assert_left, assert_right, assert_condition, assert_tree, var_lexemes, var_element, var_type, var_tree}
+use Rattle.shade_ast.specs.Nodes.{CountFrom, expr_nodes, tree_nodes}
+use Rattle.shade_ast.proofs.ExprNodes.{expr_numbers, nodes-Infix, nodes-Name, nodes-Number}
 use Rattle.shade_ast.proofs.ExprLayers.{expr_is, shape-Infix, shape-Name, shape-Number, shape-Template}
 
 -- const_assert a >= 2u;
@@ -29,6 +31,16 @@ condition_is =
     between.GreaterEqual
     (first_line 15)
     ((expr_is (codes "a" ∷ []) assert_right ∙ shape-Number (codes "a" ∷ []) (first_line 18) 2 suffix.Unsigned) i))
+
+-- its nodes are in postorder
+condition_nodes : expr_nodes assert_condition ≡ 0 ∷ (1 ∷ (2 ∷ []))
+condition_nodes =
+    expr_numbers assert_condition
+    ∙ ap (λ ns. ns ++ 2 ∷ []) (nodes-Infix assert_left between.GreaterEqual (first_line 15) assert_right)
+    ∙ (λ i. ((expr_numbers assert_left ∙ ap (λ ns. ns ++ 0 ∷ []) (nodes-Name 0)) i ++ (expr_numbers assert_right ∙ ap (λ ns. ns ++ 1 ∷ []) (nodes-Number 2 suffix.Unsigned)) i) ++ 2 ∷ [])
+
+pub assert_counts : CountFrom 0 (tree_nodes assert_tree) 4
+assert_counts = subst (λ ns. CountFrom 0 ((ns ++ 3 ∷ []) ++ []) 4) (sym condition_nodes) (refl, (refl, (refl, (refl, refl))))
 
 alone : {e : ExprShape} {ts us : List Lexeme} → Primary e ts us → Shift e ts us
 alone p = additive (multiplicative (unary (operand (primary p))))
