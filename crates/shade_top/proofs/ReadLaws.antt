@@ -8,65 +8,73 @@ use Rattle.shade_core.specs.declared.module.CoreModule.{CoreModule}
 use Rattle.shade_first.specs.FirstForm.{StandsFor}
 use Rattle.shade_top.specs.Answer.{Answer, IsAnswerTo, check_unread, checked, run_unread, stopped, job_unread, run_, IsChecked, leaves, judged, Runs, fault_read}
 use Rattle.shade_top.specs.Report.{Answers, IsJobAnswer, unread, read_job, AnswersModule, rejected, accepted, AnswersText, leaves_form, module_}
-use Rattle.shade_top.specs.Request.{Request, Check, Run, File, shader_file, job_file}
-use Rattle.shade_top.specs.Serves.{IsReadOf}
+use Rattle.shade_top.specs.Request.{Request, Check, Run, File, files, shader_file, job_file}
+use Rattle.shade_top.specs.Serves.{IsReadOf, AreReadsOf}
 
 count_grows : {A : Type 0} (p : A → Bool) (xs ys : List A) → count_by p xs ≤ count_by p (xs ++ ys)
 count_grows p xs ys = let is : count_by p (xs ++ ys) ≡ count_by p xs + count_by p ys = sum_by-append (λ x. cond (p x) 1 0) xs ys in omega arith
 
-module _ (texts : Option (List ℕ → Option (List ℕ))) (before mid now : List (List ℕ)) where
-  -- a read after others
-  read_later : (file : File) (read : Option (List ℕ)) (more : List (List ℕ)) → mid ≡ before ++ more → IsReadOf texts mid now file read → IsReadOf texts before now file read
-  read_later file None more is rose =
-      let grows : faults_of file.name before ≤ faults_of file.name mid = subst (λ names. faults_of file.name before ≤ faults_of file.name names) (sym is) (count_grows (bytes_eq file.name) before more) in
-      omega arith
-  read_later file (Some bytes) more is given = given
+-- what holds of a read holds with more names before and after it
+pub read_later : (texts : Option (List ℕ → Option (List ℕ))) (before more now : List (List ℕ)) (file : File) (read : Option (List ℕ)) → IsReadOf texts (before ++ more) now file read → IsReadOf texts before now file read
+read_later texts before more now file None rose = let grows : faults_of file.name before ≤ faults_of file.name (before ++ more) = count_grows (bytes_eq file.name) before more in omega arith
+read_later texts before more now file (Some bytes) given = given
 
-  ran_by : (file name bytes : List ℕ) (shader : CoreModule) (answer : Answer) → Runs bytes shader → (more : List (List ℕ)) → mid ≡ before ++ more → (read : Option (List ℕ)) → IsReadOf texts mid now (job_file name) read → IsJobAnswer shader name read answer
-      → IsReadOf texts before now (shader_file file) (Some bytes) → Answers texts before now (Run file name) answer
-  ran_by file name bytes shader answer runs more is read given unread first = record { reads = Some bytes ∷ None ∷ []; given = (first, (read_later (job_file name) None more is given, tt)); answered = job_unread runs }
-  ran_by file name bytes shader answer runs more is read given (read_job {steps = steps} a) first = record { reads = Some bytes ∷ Some steps ∷ []; given = (first, (given, tt)); answered = run_ runs a }
+pub read_sooner : (texts : Option (List ℕ → Option (List ℕ))) (before now more : List (List ℕ)) (file : File) (read : Option (List ℕ)) → IsReadOf texts before now file read → IsReadOf texts before (now ++ more) file read
+read_sooner texts before now more file None rose = let grows : faults_of file.name now ≤ faults_of file.name (now ++ more) = count_grows (bytes_eq file.name) now more in omega arith
+read_sooner texts before now more file (Some bytes) given = given
 
-  module_by : (file name bytes : List ℕ) (shader : CoreModule) (answer : Answer) → StandsFor bytes shader → AnswersModule texts mid now shader name answer → (more : List (List ℕ)) → mid ≡ before ++ more
-      → IsReadOf texts before now (shader_file file) (Some bytes) → Answers texts before now (Run file name) answer
-  module_by file name bytes shader answer stands (rejected v not_zero) more is first =
-      record { reads = Some bytes ∷ []; given = (first, tt); answered = stopped (subst (IsChecked bytes) (sym v.is) (judged stands v.are)) not_zero }
-  module_by file name bytes shader answer stands (accepted {violations = vs} are none a) more is first =
-      ran_by file name bytes shader answer (record { stands = stands; violations = vs; are = are; no_errors = none }) more is a.read a.given a.answered first
+module _ (texts : Option (List ℕ → Option (List ℕ))) (before mid now : List (List ℕ)) (file name : List ℕ) (n : ℕ) (grows : mid ≡ before ++ replicate n file) where
+  -- the shader was read, and then nothing, or the job
+  one_more : (bytes : List ℕ) (reads : List (Option (List ℕ))) → IsReadOf texts before mid (shader_file file) (Some bytes) → AreReadsOf texts (job_file name ∷ []) reads mid now → AreReadsOf texts (files (Run file name)) (Some bytes ∷ reads) before now
+  one_more bytes reads first others =
+      (n, subst (λ names. IsReadOf texts before names (shader_file file) (Some bytes)) grows first, subst (λ names. AreReadsOf texts (job_file name ∷ []) reads names now) grows others)
 
-  text_by : (file name bytes : List ℕ) (answer : Answer) → AnswersText texts mid now bytes name answer → (more : List (List ℕ)) → mid ≡ before ++ more → IsReadOf texts before now (shader_file file) (Some bytes) → Answers texts before now (Run file name) answer
-  text_by file name bytes answer (leaves_form {offset = offset} at a) more is first =
-      record { reads = Some bytes ∷ []; given = (first, tt); answered = stopped (subst (IsChecked bytes) (sym a) (leaves at)) (λ z. two_zero (sym (ap (λ (x : Answer). x.status) a) ∙ z)) } where
+  job_by : (bytes : List ℕ) (shader : CoreModule) (answer : Answer) → Runs bytes shader → (read : Option (List ℕ)) → AreReadsOf texts (job_file name ∷ []) (read ∷ []) mid now → IsJobAnswer shader name read answer
+      → IsReadOf texts before mid (shader_file file) (Some bytes) → Answers texts before now (Run file name) answer
+  job_by bytes shader answer runs read given unread first = record { reads = Some bytes ∷ None ∷ []; given = one_more bytes (None ∷ []) first given; answered = job_unread runs }
+  job_by bytes shader answer runs read given (read_job {steps = steps} a) first = record { reads = Some bytes ∷ Some steps ∷ []; given = one_more bytes (Some steps ∷ []) first given; answered = run_ runs a }
+
+  module_by : (bytes : List ℕ) (shader : CoreModule) (answer : Answer) → StandsFor bytes shader → AnswersModule texts mid now shader name answer → IsReadOf texts before mid (shader_file file) (Some bytes) → Answers texts before now (Run file name) answer
+  module_by bytes shader answer stands (rejected v not_zero same) first =
+      record { reads = Some bytes ∷ []; given = one_more bytes [] first same; answered = stopped (subst (IsChecked bytes) (sym v.is) (judged stands v.are)) not_zero }
+  module_by bytes shader answer stands (accepted {violations = vs} are none a) first =
+      job_by bytes shader answer (record { stands = stands; violations = vs; are = are; no_errors = none }) a.read a.given a.answered first
+
+  text_by : (bytes : List ℕ) (answer : Answer) → AnswersText texts mid now bytes name answer → IsReadOf texts before mid (shader_file file) (Some bytes) → Answers texts before now (Run file name) answer
+  text_by bytes answer (leaves_form {offset = offset} at a same) first =
+      record { reads = Some bytes ∷ []; given = one_more bytes [] first same; answered = stopped (subst (IsChecked bytes) (sym a) (leaves at)) (λ z. two_zero (sym (ap (λ (x : Answer). x.status) a) ∙ z)) } where
         two_zero : ◌≡◌ {A = ℕ} 2 0 → ⊥
         two_zero e = cc
-  text_by file name bytes answer (module_ {shader = shader} stands a) more is first = module_by file name bytes shader answer stands a more is first
+  text_by bytes answer (module_ {shader = shader} stands a) first = module_by bytes shader answer stands a first
 
   -- a run whose shader was read
-  pub run_read : {T E : Type 0} (f : T → Answer) (result : Result T E) (file name bytes : List ℕ) (read : Option (List ℕ)) (request : Request) (n : ℕ) → request ≡ Run file name → mid ≡ before ++ replicate n file → IsReadOf texts before mid (shader_file file) read → read ≡ Some bytes
+  pub run_read : {T E : Type 0} (f : T → Answer) (result : Result T E) (bytes : List ℕ) (read : Option (List ℕ)) (request : Request) → request ≡ Run file name → IsReadOf texts before mid (shader_file file) read → read ≡ Some bytes
       → IfOk result (λ report. AnswersText texts mid now bytes name (f report)) → IfOk result (λ report. Answers texts before now request (f report))
-  run_read f (Ok report) file name bytes read request n asked is given found a =
-      let first : IsReadOf texts before mid (shader_file file) (Some bytes) = subst (IsReadOf texts before mid (shader_file file)) found given in
-      subst (λ q. Answers texts before now q (f report)) (sym asked) (text_by file name bytes (f report) a (replicate n file) is first)
-  run_read f (Err e) file name bytes read request n asked is given found a = tt
+  run_read f (Ok report) bytes read request asked given found a =
+      subst (λ q. Answers texts before now q (f report)) (sym asked) (text_by bytes (f report) a (subst (IsReadOf texts before mid (shader_file file)) found given))
+  run_read f (Err e) bytes read request asked given found a = tt
 
-module _ {T E : Type 0} (f : T → Answer) (result : Result T E) (texts : Option (List ℕ → Option (List ℕ))) (before now : List (List ℕ)) (request : Request) where
+module _ {T E : Type 0} (f : T → Answer) (result : Result T E) (texts : Option (List ℕ → Option (List ℕ))) (before now : List (List ℕ)) (request : Request) (file : List ℕ) (n : ℕ) (grows : now ≡ before ++ replicate n file) (read : Option (List ℕ)) (given : IsReadOf texts before now (shader_file file) read) where
+  reads_are : (others : List File) (wanted : Option (List ℕ)) → read ≡ wanted → AreReadsOf texts (shader_file file ∷ others) (wanted ∷ []) before now
+  reads_are others wanted found = (n, subst (λ names. IsReadOf texts before names (shader_file file) wanted) grows (subst (IsReadOf texts before now (shader_file file)) found given), grows)
+
   -- a run whose shader was not read
-  pub run_fault : (file name : List ℕ) (read : Option (List ℕ)) → request ≡ Run file name → IsReadOf texts before now (shader_file file) read → read ≡ None → IfOk result (λ report. f report ≡ fault_read file) → IfOk result (λ report. Answers texts before now request (f report))
-  run_fault file name read asked given found answers = by result answers where
+  pub run_fault : (name : List ℕ) → request ≡ Run file name → read ≡ None → IfOk result (λ report. f report ≡ fault_read file) → IfOk result (λ report. Answers texts before now request (f report))
+  run_fault name asked found answers = by result answers where
     by : (r : Result T E) → IfOk r (λ report. f report ≡ fault_read file) → IfOk r (λ report. Answers texts before now request (f report))
-    by (Ok report) a = subst (λ q. Answers texts before now q (f report)) (sym asked) (record { reads = None ∷ []; given = (subst (IsReadOf texts before now (shader_file file)) found given, tt); answered = subst (IsAnswerTo (Run file name) (None ∷ [])) (sym a) run_unread })
+    by (Ok report) a = subst (λ q. Answers texts before now q (f report)) (sym asked) (record { reads = None ∷ []; given = reads_are (job_file name ∷ []) None found; answered = subst (IsAnswerTo (Run file name) (None ∷ [])) (sym a) run_unread })
     by (Err e) a = tt
 
   -- a check whose text was not read
-  pub check_fault : (file : List ℕ) (read : Option (List ℕ)) → request ≡ Check file → IsReadOf texts before now (shader_file file) read → read ≡ None → IfOk result (λ report. f report ≡ fault_read file) → IfOk result (λ report. Answers texts before now request (f report))
-  check_fault file read asked given found answers = by result answers where
+  pub check_fault : request ≡ Check file → read ≡ None → IfOk result (λ report. f report ≡ fault_read file) → IfOk result (λ report. Answers texts before now request (f report))
+  check_fault asked found answers = by result answers where
     by : (r : Result T E) → IfOk r (λ report. f report ≡ fault_read file) → IfOk r (λ report. Answers texts before now request (f report))
-    by (Ok report) a = subst (λ q. Answers texts before now q (f report)) (sym asked) (record { reads = None ∷ []; given = (subst (IsReadOf texts before now (shader_file file)) found given, tt); answered = subst (IsAnswerTo (Check file) (None ∷ [])) (sym a) check_unread })
+    by (Ok report) a = subst (λ q. Answers texts before now q (f report)) (sym asked) (record { reads = None ∷ []; given = reads_are [] None found; answered = subst (IsAnswerTo (Check file) (None ∷ [])) (sym a) check_unread })
     by (Err e) a = tt
 
   -- a check whose text was read
-  pub check_read : (file bytes : List ℕ) (read : Option (List ℕ)) → request ≡ Check file → IsReadOf texts before now (shader_file file) read → read ≡ Some bytes → IfOk result (λ report. IsChecked bytes (f report)) → IfOk result (λ report. Answers texts before now request (f report))
-  check_read file bytes read asked given found answers = by result answers where
+  pub check_read : (bytes : List ℕ) → request ≡ Check file → read ≡ Some bytes → IfOk result (λ report. IsChecked bytes (f report)) → IfOk result (λ report. Answers texts before now request (f report))
+  check_read bytes asked found answers = by result answers where
     by : (r : Result T E) → IfOk r (λ report. IsChecked bytes (f report)) → IfOk r (λ report. Answers texts before now request (f report))
-    by (Ok report) a = subst (λ q. Answers texts before now q (f report)) (sym asked) (record { reads = Some bytes ∷ []; given = (subst (IsReadOf texts before now (shader_file file)) found given, tt); answered = checked a })
+    by (Ok report) a = subst (λ q. Answers texts before now q (f report)) (sym asked) (record { reads = Some bytes ∷ []; given = reads_are [] (Some bytes) found; answered = checked a })
     by (Err e) a = tt

@@ -1,5 +1,5 @@
 -- What the answer to a run of a text is made of.
-use Rattle.std.proofs.Common.{◌≡◌, refl, sym, ◌∙◌, ap, subst, ℕ, zero, suc, ◌<◌, ◌==◌, if◌then◌else◌, Bool, true, false, List, [], ◌∷◌, length, slice_get, Option, None, Some, arith}
+use Rattle.std.proofs.Common.{◌≡◌, refl, sym, ◌∙◌, ap, subst, ℕ, zero, suc, ◌<◌, ◌==◌, if◌then◌else◌, Bool, true, false, List, [], ◌∷◌, ◌++◌, length, replicate, slice_get, Option, None, Some, arith}
 use Rattle.std.specs.Prelude.{IfOk, Result, Ok, Err}
 use Rattle.std.proofs.lemmas.Bool.Decides.{nat_tests}
 use Rattle.shade_base.specs.declared.severity.Severity.TheVariants.{Error}
@@ -11,8 +11,8 @@ use Rattle.shade_group.specs.Group.{Machine, begin, run}
 use Rattle.shade_job.specs.Steps.{AllBelow, States}
 use Rattle.shade_top.specs.Answer.{Answer, IsChecked, leaves, judged, IsRan, no_job, job, inputs, lanes_of, outcome, fault_read, refused_job, refused_notyet}
 use Rattle.shade_top.specs.Report.{IsVerdict, IsJobAnswer, unread, read_job, AnswersJob, AnswersModule, accepted, AnswersText, leaves_form, module_}
-use Rattle.shade_top.specs.Request.{job_file}
-use Rattle.shade_top.specs.Serves.{IsReadOf}
+use Rattle.shade_top.specs.Request.{File, job_file}
+use Rattle.shade_top.specs.Serves.{IsReadOf, AreReadsOf}
 
 -- each step of a job is the number of a lane
 below_at : (lanes : ℕ) (steps : List ℕ) (i n : ℕ) → AllBelow lanes steps → slice_get steps i ≡ Some n → n < lanes
@@ -42,19 +42,23 @@ module _ (shader : CoreModule) (given : Inputs) (m : Machine) (lanes : ℕ) (giv
       subst (IsRan shader bytes) (sym is) (no_job (λ steps states. none steps (subst (λ l. States l bytes steps) (sym lanes_are) states)))
   refusal_answers f (Err e) bytes none is = tt
 
+-- one read, of one file
+pub one_read : (texts : Option (List ℕ → Option (List ℕ))) (before now : List (List ℕ)) (file : File) (read : Option (List ℕ)) (n : ℕ) → now ≡ before ++ replicate n file.name → IsReadOf texts before now file read → AreReadsOf texts (file ∷ []) (read ∷ []) before now
+one_read texts before now file read n grows given = (n, subst (λ names. IsReadOf texts before names file read) grows given, grows)
+
 module _ {T E : Type 0} (f : T → Answer) (result : Result T E) (texts : Option (List ℕ → Option (List ℕ))) (before now : List (List ℕ)) where
   -- the answer to the bytes of a job that was read
-  pub job_read : (shader : CoreModule) (name bytes : List ℕ) (read : Option (List ℕ)) → IsReadOf texts before now (job_file name) read → read ≡ Some bytes → IfOk result (λ report. IsRan shader bytes (f report)) → IfOk result (λ report. AnswersJob texts before now shader name (f report))
-  job_read shader name bytes read given is answers = by result answers where
+  pub job_read : (shader : CoreModule) (name bytes : List ℕ) (read : Option (List ℕ)) (n : ℕ) → now ≡ before ++ replicate n name → IsReadOf texts before now (job_file name) read → read ≡ Some bytes → IfOk result (λ report. IsRan shader bytes (f report)) → IfOk result (λ report. AnswersJob texts before now shader name (f report))
+  job_read shader name bytes read n grows given is answers = by result answers where
     by : (r : Result T E) → IfOk r (λ report. IsRan shader bytes (f report)) → IfOk r (λ report. AnswersJob texts before now shader name (f report))
-    by (Ok report) a = record { read = Some bytes; given = subst (IsReadOf texts before now (job_file name)) is given; answered = read_job a }
+    by (Ok report) a = record { read = Some bytes; given = one_read texts before now (job_file name) (Some bytes) n grows (subst (IsReadOf texts before now (job_file name)) is given); answered = read_job a }
     by (Err e) a = tt
 
   -- the answer where a job was not read
-  pub job_unread : (shader : CoreModule) (name : List ℕ) (read : Option (List ℕ)) → IsReadOf texts before now (job_file name) read → read ≡ None → IfOk result (λ report. f report ≡ fault_read name) → IfOk result (λ report. AnswersJob texts before now shader name (f report))
-  job_unread shader name read given is answers = by result answers where
+  pub job_unread : (shader : CoreModule) (name : List ℕ) (read : Option (List ℕ)) (n : ℕ) → now ≡ before ++ replicate n name → IsReadOf texts before now (job_file name) read → read ≡ None → IfOk result (λ report. f report ≡ fault_read name) → IfOk result (λ report. AnswersJob texts before now shader name (f report))
+  job_unread shader name read n grows given is answers = by result answers where
     by : (r : Result T E) → IfOk r (λ report. f report ≡ fault_read name) → IfOk r (λ report. AnswersJob texts before now shader name (f report))
-    by (Ok report) a = record { read = None; given = subst (IsReadOf texts before now (job_file name)) is given; answered = subst (IsJobAnswer shader name None) (sym a) unread }
+    by (Ok report) a = record { read = None; given = one_read texts before now (job_file name) None n grows (subst (IsReadOf texts before now (job_file name)) is given); answered = subst (IsJobAnswer shader name None) (sym a) unread }
     by (Err e) a = tt
 
   none_by : (no_errors : Bool) → ◌≡◌ {A = ℕ} (if no_errors then 0 else 1) 0 → no_errors ≡ true
@@ -80,10 +84,10 @@ module _ {T E : Type 0} (f : T → Answer) (result : Result T E) (texts : Option
     by (Ok report) a = module_ stands a
     by (Err e) a = tt
 
-  pub text_leaves : (bytes name : List ℕ) (offset : ℕ) → LeavesAt bytes offset → IfOk result (λ report. f report ≡ refused_notyet offset) → IfOk result (λ report. AnswersText texts before now bytes name (f report))
-  text_leaves bytes name offset at answers = by result answers where
+  pub text_leaves : (bytes name : List ℕ) (offset : ℕ) → LeavesAt bytes offset → now ≡ before → IfOk result (λ report. f report ≡ refused_notyet offset) → IfOk result (λ report. AnswersText texts before now bytes name (f report))
+  text_leaves bytes name offset at same answers = by result answers where
     by : (r : Result T E) → IfOk r (λ report. f report ≡ refused_notyet offset) → IfOk r (λ report. AnswersText texts before now bytes name (f report))
-    by (Ok report) a = leaves_form at a
+    by (Ok report) a = leaves_form at a same
     by (Err e) a = tt
 
 -- ---- a check of a text

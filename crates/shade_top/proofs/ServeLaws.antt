@@ -1,5 +1,5 @@
 -- What an answer makes of a call of the top call.
-use Rattle.std.proofs.Common.{◌≡◌, ◌≢◌, ◌⊎◌, inl, inr, ◌∙◌, refl, sym, subst, ap, ℕ, ◌+◌, ◌≤◌, ◌==◌, if◌then◌else◌, Bool, true, false, List, [], ◌∷◌, ◌++◌, length, Option, None, Some, codes, arith}
+use Rattle.std.proofs.Common.{◌≡◌, ◌≢◌, ◌<◌, ◌⊎◌, inl, inr, ◌∙◌, refl, sym, subst, ap, ℕ, ◌+◌, ◌≤◌, ◌==◌, if◌then◌else◌, Bool, true, false, List, [], ◌∷◌, ◌++◌, length, replicate, Option, None, Some, codes, arith}
 use Rattle.std.specs.Prelude.{IsNone}
 use Rattle.std.specs.List.{flat_map}
 use Rattle.std.specs.Fmt.{decimal}
@@ -13,10 +13,13 @@ use Rattle.shade_group.specs.declared.event.RunEnd.TheVariants as run_end
 use Rattle.shade_group.specs.Group.{Machine, run_end_of, end_by, all_ended}
 use Rattle.shade_sound.specs.Laws.{NeverDiverges}
 use Rattle.shade_top.specs.Answer.{Answer, no_form, answered, IsAnswerTo, check_unread, checked, run_unread, stopped, job_unread, run_, IsChecked, leaves, judged, IsRan, no_job, job, NoJob, Runs, bad_words, fault_read, inputs, ran, outcome, run_status}
-use Rattle.shade_top.specs.Causes.{Spends, Diverges}
+use Rattle.shade_base.specs.Shelf.{faults_of}
+use Rattle.shade_base.specs.Sink.{with_piece}
+use Rattle.shade_top.specs.Causes.{Spends, Diverges, Rejects, Leaves}
 use Rattle.shade_top.specs.Report.{Answers}
 use Rattle.shade_top.specs.Request.{Request, Check, Run, File, files, requested, request_of, files_of, shader_file, job_file}
-use Rattle.shade_top.specs.Serves.{AreReadsOf, FaultOf, JobRead, Ends, Serves}
+use Rattle.shade_top.specs.Serves.{AreReadsOf, FaultOf, JobRead, ShaderRead, Ends, Serves}
+use Rattle.shade_top.proofs.ReadLaws.{read_later}
 
 some_byte : (byte : ℕ) (bytes : List ℕ) → 1 ≤ length (byte ∷ bytes)
 some_byte byte bytes = omega arith
@@ -78,22 +81,22 @@ fits a = answer_fits a.answered
 -- ---- what a call did
 
 -- a call for words that fit no form
-pub bad_serves : (words : List (List ℕ)) (texts : Option (List ℕ → Option (List ℕ))) (before now : List (List ℕ)) (taken taken' : Option (List ℕ)) (faults faults' status : ℕ) → request_of words ≡ None → Ends bad_words taken taken' faults faults' status → Serves words texts before now taken taken' faults faults' status
-bad_serves words texts before now taken taken' faults faults' status is ends =
+pub bad_serves : (words : List (List ℕ)) (texts : Option (List ℕ → Option (List ℕ))) (failed : List (List ℕ)) (taken taken' : Option (List ℕ)) (faults faults' status : ℕ) → request_of words ≡ None → Ends bad_words taken taken' faults faults' status → Serves words texts failed failed taken taken' faults faults' status
+bad_serves words texts failed taken taken' faults faults' status is ends =
     record { reads = []; answer = bad_words; given = λ h. none_read (files_of words); answered = λ h. no_form is refl; ends = ends } where
-      none_read : (fs : List File) → AreReadsOf texts before now fs []
-      none_read [] = tt
-      none_read (f ∷ fs) = tt
+      none_read : (fs : List File) → AreReadsOf texts fs [] failed failed
+      none_read [] = refl
+      none_read (f ∷ fs) = refl
 
 -- a call whose answer was written
 pub answer_serves : (words : List (List ℕ)) (texts : Option (List ℕ → Option (List ℕ))) (before now : List (List ℕ)) (taken taken' : Option (List ℕ)) (faults faults' status : ℕ) (request : Request) (answer : Answer) → request_of words ≡ Some request → Answers texts before now request answer → Ends answer taken taken' faults faults' status → Serves words texts before now taken taken' faults faults' status
 answer_serves words texts before now taken taken' faults faults' status request answer is a ends =
-    record { reads = a.reads; answer = answer; given = λ h. subst (λ (asked : Option Request). AreReadsOf texts before now (requested asked) a.reads) (sym is) a.given; answered = λ h. answered is a.answered; ends = ends }
+    record { reads = a.reads; answer = answer; given = λ h. subst (λ (asked : Option Request). AreReadsOf texts (requested asked) a.reads before now) (sym is) a.given; answered = λ h. answered is a.answered; ends = ends }
 
 -- a call that found no memory
 pub memory_serves : (words : List (List ℕ)) (texts : Option (List ℕ → Option (List ℕ))) (before now : List (List ℕ)) (taken : Option (List ℕ)) (faults : ℕ) → Serves words texts before now taken taken faults faults 7
 memory_serves words texts before now taken faults =
-    record { reads = []; answer = bad_words; given = λ h. absurd (h refl); answered = λ h. absurd (h refl); ends = record { whole = λ a b. absurd (b refl); cut = λ e. cc; nothing = λ e. refl } }
+    record { reads = []; answer = bad_words; given = λ h. absurd (h refl); answered = λ h. absurd (h refl); ends = record { later = omega arith; whole = λ a b. absurd (b refl); cut = λ e. cc; nothing = λ e. (refl, refl) } }
 
 -- ---- causes
 
@@ -109,39 +112,40 @@ three_is_bad words answer result a cases is = absurd ((fits a).not_three (status
 abbrev Cause : Option (List ℕ → Option (List ℕ)) → List (List ℕ) → List (List ℕ) → Request → (CoreModule → List ℕ → Type 0) → Type 0
 Cause texts before now request Holds = (words : List (List ℕ)) → request_of words ≡ Some request → JobRead words texts before now Holds
 
--- the verdict on a text has no such status
-abbrev late : ℕ → Type 0
-late status = (status ≢ 0) × (status ≢ 1) × (status ≢ 2) × (status ≢ 5)
+-- the answer to a check has no such status
+abbrev Late : ℕ → Type 0
+Late wanted = (wanted ≢ 0) × (wanted ≢ 1) × (wanted ≢ 2)
 
-verdict_early : (no_errors : Bool) (wanted : ℕ) → late wanted → (if no_errors then 0 else 1) ≡ wanted → ⊥
+verdict_early : (no_errors : Bool) (wanted : ℕ) → Late wanted → (if no_errors then 0 else 1) ≡ wanted → ⊥
 verdict_early true wanted l e = l.0 (sym e)
 verdict_early false wanted l e = l.1 (sym e)
 
-checked_early : {bytes : List ℕ} {answer : Answer} (wanted : ℕ) → late wanted → IsChecked bytes answer → answer.status ≡ wanted → ⊥
+checked_early : {bytes : List ℕ} {answer : Answer} (wanted : ℕ) → Late wanted → IsChecked bytes answer → answer.status ≡ wanted → ⊥
 checked_early wanted l (leaves h) e = l.2 (sym e)
 checked_early wanted l (judged {violations = vs} stands are) e = verdict_early (count_of Error vs == 0) wanted l e
 
-module _ (Holds : CoreModule → List ℕ → Type 0) (wanted : ℕ) (l : late wanted) (holds : (shader : CoreModule) (text bytes : List ℕ) (answer : Answer) → Runs text shader → IsRan shader bytes answer → answer.status ≡ wanted → Holds shader bytes) where
-  job_cause_by : {texts : Option (List ℕ → Option (List ℕ))} {before now : List (List ℕ)} {request : Request} {reads : List (Option (List ℕ))} {answer : Answer} → AreReadsOf texts before now (files request) reads → IsAnswerTo request reads answer → answer.status ≡ wanted → Cause texts before now request Holds
-  job_cause_by given check_unread e words asked = absurd (l.3 (sym e))
-  job_cause_by given (checked c) e words asked = absurd (checked_early wanted l c e)
-  job_cause_by given run_unread e words asked = absurd (l.3 (sym e))
-  job_cause_by given (stopped c not_zero) e words asked = absurd (checked_early wanted l c e)
-  job_cause_by given (job_unread runs) e words asked = absurd (l.3 (sym e))
-  job_cause_by given (run_ {file = file} {job = name} {bytes = bytes} {steps = steps} {shader = shader} {answer = answer} runs r) e words asked =
-      record { file = file; job = name; asked = asked; bytes = bytes; read = given.0; shader = shader; runs = runs; steps = steps; steps_read = given.1.0; holds = holds shader bytes steps answer runs r e }
+-- nor has the outcome of a run such a status
+outcome_other : (end : RunEnd) (wanted : ℕ) → wanted ≢ 0 → wanted ≢ 8 → wanted ≢ 9 → run_status end ≡ wanted → ⊥
+outcome_other run_end.Ended wanted zero_ eight nine e = zero_ (sym e)
+outcome_other (run_end.Diverged one other) wanted zero_ eight nine e = eight (sym e)
+outcome_other run_end.Running wanted zero_ eight nine e = nine (sym e)
+
+module _ (Holds : CoreModule → List ℕ → Type 0) (wanted : ℕ) (l : Late wanted) (not_five : wanted ≢ 5) (holds : (shader : CoreModule) (text bytes : List ℕ) (answer : Answer) → Runs text shader → IsRan shader bytes answer → answer.status ≡ wanted → Holds shader bytes) where
+  job_cause_by : (texts : Option (List ℕ → Option (List ℕ))) (before now : List (List ℕ)) {request : Request} {reads : List (Option (List ℕ))} {answer : Answer} → AreReadsOf texts (files request) reads before now → IsAnswerTo request reads answer → answer.status ≡ wanted → Cause texts before now request Holds
+  job_cause_by texts before now given check_unread e words asked = absurd (not_five (sym e))
+  job_cause_by texts before now given (checked c) e words asked = absurd (checked_early wanted l c e)
+  job_cause_by texts before now given run_unread e words asked = absurd (not_five (sym e))
+  job_cause_by texts before now given (stopped c not_zero) e words asked = absurd (checked_early wanted l c e)
+  job_cause_by texts before now given (job_unread runs) e words asked = absurd (not_five (sym e))
+  job_cause_by texts before now given (run_ {file = file} {job = name} {bytes = bytes} {steps = steps} {shader = shader} {answer = answer} runs r) e words asked =
+      record { file = file; job = name; asked = asked; bytes = bytes; read = given.1; shader = shader; runs = runs; steps = steps; steps_read = given.2.1; holds = holds shader bytes steps answer runs r e }
 
   pub job_cause : {texts : Option (List ℕ → Option (List ℕ))} {before now : List (List ℕ)} {request : Request} (words : List (List ℕ)) (answer : Answer) (result : ℕ) → wanted ≢ 6 → request_of words ≡ Some request → Answers texts before now request answer → (result ≡ answer.status) ⊎ (result ≡ 6) → result ≡ wanted → JobRead words texts before now Holds
-  job_cause words answer result not_six asked a cases is = job_cause_by a.given a.answered (status_is answer.status result cases wanted is not_six) words asked
-
-run_status_late : (end : RunEnd) → run_status end ≡ 4 → ⊥
-run_status_late run_end.Ended e = cc
-run_status_late (run_end.Diverged one other) e = cc
-run_status_late run_end.Running e = cc
+  job_cause words answer result not_six asked a cases is = job_cause_by _ _ _ a.given a.answered (status_is answer.status result cases wanted is not_six) words asked
 
 four_holds : (shader : CoreModule) (text bytes : List ℕ) (answer : Answer) → Runs text shader → IsRan shader bytes answer → answer.status ≡ 4 → NoJob shader bytes
 four_holds shader text bytes answer runs (no_job none) e = none
-four_holds shader text bytes answer runs (job {steps = steps} states) e = absurd (run_status_late (run_end_of (ran shader steps)) e)
+four_holds shader text bytes answer runs (job {steps = steps} states) e = absurd (outcome_other (run_end_of (ran shader steps)) 4 (λ z. cc) (λ z. cc) (λ z. cc) e)
 
 nine_runs : (end : RunEnd) → run_status end ≡ 9 → end ≡ run_end.Running
 nine_runs run_end.Ended e = absurd (cc)
@@ -166,46 +170,86 @@ eight_holds law shader text bytes answer runs (job {steps = steps} states) e =
 module _ {texts : Option (List ℕ → Option (List ℕ))} {before now : List (List ℕ)} {request : Request} (words : List (List ℕ)) (answer : Answer) (result : ℕ) (asked : request_of words ≡ Some request) (a : Answers texts before now request answer) (cases : (result ≡ answer.status) ⊎ (result ≡ 6)) where
   -- a call that ends with 4 read a job that states no steps
   pub four_has_cause : result ≡ 4 → JobRead words texts before now NoJob
-  four_has_cause = job_cause NoJob 4 ((λ e. cc), (λ e. cc), (λ e. cc), λ e. cc) four_holds words answer result (λ e. cc) asked a cases
+  four_has_cause = job_cause NoJob 4 ((λ e. cc), (λ e. cc), λ e. cc) (λ e. cc) four_holds words answer result (λ e. cc) asked a cases
 
   -- a call that ends with 8 read a job whose run diverges
   pub eight_has_cause : NeverDiverges → result ≡ 8 → JobRead words texts before now Diverges
-  eight_has_cause law = job_cause Diverges 8 ((λ e. cc), (λ e. cc), (λ e. cc), λ e. cc) (eight_holds law) words answer result (λ e. cc) asked a cases
+  eight_has_cause law = job_cause Diverges 8 ((λ e. cc), (λ e. cc), λ e. cc) (λ e. cc) (eight_holds law) words answer result (λ e. cc) asked a cases
 
   -- a call that ends with 9 read a job after whose steps the machine still runs
   pub nine_has_cause : result ≡ 9 → JobRead words texts before now Spends
-  nine_has_cause = job_cause Spends 9 ((λ e. cc), (λ e. cc), (λ e. cc), λ e. cc) nine_holds words answer result (λ e. cc) asked a cases
+  nine_has_cause = job_cause Spends 9 ((λ e. cc), (λ e. cc), λ e. cc) (λ e. cc) nine_holds words answer result (λ e. cc) asked a cases
 
 -- ---- faults
 
-five_verdict : (no_errors : Bool) → ◌≡◌ {A = ℕ} (if no_errors then 0 else 1) 5 → ⊥
-five_verdict true e = cc
-five_verdict false e = cc
-
-five_checked : {bytes : List ℕ} {answer : Answer} → IsChecked bytes answer → answer.status ≡ 5 → ⊥
-five_checked (leaves h) e = cc
-five_checked (judged {violations = vs} stands are) e = five_verdict (count_of Error vs == 0) e
-
-five_run : (end : RunEnd) → run_status end ≡ 5 → ⊥
-five_run run_end.Ended e = cc
-five_run (run_end.Diverged one other) e = cc
-five_run run_end.Running e = cc
-
-five_ran : {shader : CoreModule} {bytes : List ℕ} {answer : Answer} → IsRan shader bytes answer → answer.status ≡ 5 → ⊥
-five_ran (no_job none) e = cc
-five_ran {shader = shader} (job {steps = steps} states) e = five_run (run_end_of (ran shader steps)) e
+-- nor has the answer to a job such a status
+ran_other : {shader : CoreModule} {bytes : List ℕ} {answer : Answer} (wanted : ℕ) → wanted ≢ 0 → wanted ≢ 4 → wanted ≢ 8 → wanted ≢ 9 → IsRan shader bytes answer → answer.status ≡ wanted → ⊥
+ran_other wanted zero_ four eight nine (no_job none) e = four (sym e)
+ran_other {shader = shader} wanted zero_ four eight nine (job {steps = steps} states) e = outcome_other (run_end_of (ran shader steps)) wanted zero_ eight nine e
 
 named_by : (words : List (List ℕ)) (request : Request) (fs : List File) → request_of words ≡ Some request → files request ≡ fs → files_of words ≡ fs
 named_by words request fs asked is = ap requested asked ∙ is
 
-fault_by : (texts : Option (List ℕ → Option (List ℕ))) (before now : List (List ℕ)) {request : Request} {reads : List (Option (List ℕ))} {answer : Answer} (words : List (List ℕ)) → AreReadsOf texts before now (files request) reads → IsAnswerTo request reads answer → request_of words ≡ Some request → answer.status ≡ 5 → FaultOf words before now
-fault_by texts before now words given (check_unread {file = file}) asked e = record { file = shader_file file; before = []; after = []; named = named_by words (Check file) (shader_file file ∷ []) asked refl; rose = given.0 }
-fault_by texts before now words given (checked c) asked e = absurd (five_checked c e)
-fault_by texts before now words given (run_unread {file = file} {job = name}) asked e = record { file = shader_file file; before = []; after = job_file name ∷ []; named = named_by words (Run file name) (shader_file file ∷ job_file name ∷ []) asked refl; rose = given.0 }
-fault_by texts before now words given (stopped c not_zero) asked e = absurd (five_checked c e)
-fault_by texts before now words given (job_unread {file = file} {job = name} runs) asked e = record { file = job_file name; before = shader_file file ∷ []; after = []; named = named_by words (Run file name) (shader_file file ∷ job_file name ∷ []) asked refl; rose = given.1.0 }
-fault_by texts before now words given (run_ runs r) asked e = absurd (five_ran r e)
+fault_by : (texts : Option (List ℕ → Option (List ℕ))) (before now : List (List ℕ)) (taken taken' : Option (List ℕ)) {request : Request} {reads : List (Option (List ℕ))} {answer : Answer} (words : List (List ℕ)) → AreReadsOf texts (files request) reads before now → IsAnswerTo request reads answer → request_of words ≡ Some request → answer.status ≡ 5 → taken' ≡ with_piece taken answer.text → FaultOf words before now taken taken'
+fault_by texts before now taken taken' words given (check_unread {file = file}) asked e told =
+    record { file = shader_file file; before = []; after = []; named = named_by words (Check file) (shader_file file ∷ []) asked refl; rose = subst (λ names. faults_of file before < faults_of file names) (sym given.2) given.1; told = told }
+fault_by texts before now taken taken' words given (checked c) asked e told = absurd (checked_early 5 ((λ z. cc), (λ z. cc), λ z. cc) c e)
+fault_by texts before now taken taken' words given (run_unread {file = file} {job = name}) asked e told =
+    record { file = shader_file file; before = []; after = job_file name ∷ []; named = named_by words (Run file name) (shader_file file ∷ job_file name ∷ []) asked refl; rose = subst (λ names. faults_of file before < faults_of file names) (sym given.2) given.1; told = told }
+fault_by texts before now taken taken' words given (stopped c not_zero) asked e told = absurd (checked_early 5 ((λ z. cc), (λ z. cc), λ z. cc) c e)
+fault_by texts before now taken taken' words given (job_unread {file = file} {job = name} runs) asked e told =
+    record { file = job_file name; before = shader_file file ∷ []; after = []; named = named_by words (Run file name) (shader_file file ∷ job_file name ∷ []) asked refl; rose = subst (λ names. faults_of name before < faults_of name names) (sym given.2.2) (read_later texts before (replicate given.0 file) ((before ++ replicate given.0 file) ++ replicate given.2.0 name) (job_file name) None given.2.1); told = told }
+fault_by texts before now taken taken' words given (run_ runs r) asked e told = absurd (ran_other 5 (λ z. cc) (λ z. cc) (λ z. cc) (λ z. cc) r e)
 
--- a call that ends with 5 raised the count of faults of a named file
-pub five_has_cause : {texts : Option (List ℕ → Option (List ℕ))} {before now : List (List ℕ)} {request : Request} (words : List (List ℕ)) (answer : Answer) (result : ℕ) → request_of words ≡ Some request → Answers texts before now request answer → (result ≡ answer.status) ⊎ (result ≡ 6) → result ≡ 5 → FaultOf words before now
-five_has_cause words answer result asked a cases is = fault_by _ _ _ words a.given a.answered asked (status_is answer.status result cases 5 is (λ e. cc))
+-- a call that ends with 5 raised the count of faults of the name that it printed
+pub five_has_cause : {texts : Option (List ℕ → Option (List ℕ))} {before now : List (List ℕ)} {request : Request} (words : List (List ℕ)) (answer : Answer) (result : ℕ) (taken taken' : Option (List ℕ)) (faults faults' : ℕ) → request_of words ≡ Some request → Answers texts before now request answer
+    → Ends answer taken taken' faults faults' result → (result ≡ answer.status) ⊎ (result ≡ 6) → result ≡ 5 → FaultOf words before now taken taken'
+five_has_cause words answer result taken taken' faults faults' asked a ends cases is =
+    fault_by _ _ _ taken taken' words a.given a.answered asked (status_is answer.status result cases 5 is (λ e. cc)) (ends.whole (λ e. five_six (sym is ∙ e)) (λ e. five_seven (sym is ∙ e))).1 where
+      five_six : ◌≡◌ {A = ℕ} 5 6 → ⊥
+      five_six e = cc
+
+      five_seven : ◌≡◌ {A = ℕ} 5 7 → ⊥
+      five_seven e = cc
+
+-- ---- shaders
+
+module _ (Holds : List ℕ → Type 0) (wanted : ℕ) (not_five : wanted ≢ 5) (other : (shader : CoreModule) (bytes : List ℕ) (answer : Answer) → IsRan shader bytes answer → answer.status ≡ wanted → ⊥) (holds : (bytes : List ℕ) (answer : Answer) → IsChecked bytes answer → answer.status ≡ wanted → Holds bytes) where
+  shader_cause_by : (texts : Option (List ℕ → Option (List ℕ))) (before now : List (List ℕ)) {request : Request} {reads : List (Option (List ℕ))} {answer : Answer} (words : List (List ℕ)) → AreReadsOf texts (files request) reads before now → IsAnswerTo request reads answer → answer.status ≡ wanted → request_of words ≡ Some request → ShaderRead words texts before now Holds
+  shader_cause_by texts before now words given check_unread e asked = absurd (not_five (sym e))
+  shader_cause_by texts before now words given (checked {file = file} {bytes = bytes} {answer = answer} c) e asked =
+      record { file = file; after = []; named = named_by words (Check file) (shader_file file ∷ []) asked refl; bytes = bytes; read = given.1; holds = holds bytes answer c e }
+  shader_cause_by texts before now words given run_unread e asked = absurd (not_five (sym e))
+  shader_cause_by texts before now words given (stopped {file = file} {job = name} {bytes = bytes} {answer = answer} c not_zero) e asked =
+      record { file = file; after = job_file name ∷ []; named = named_by words (Run file name) (shader_file file ∷ job_file name ∷ []) asked refl; bytes = bytes; read = given.1; holds = holds bytes answer c e }
+  shader_cause_by texts before now words given (job_unread runs) e asked = absurd (not_five (sym e))
+  shader_cause_by texts before now words given (run_ {steps = steps} {shader = shader} {answer = answer} runs r) e asked = absurd (other shader steps answer r e)
+
+  shader_cause : {texts : Option (List ℕ → Option (List ℕ))} {before now : List (List ℕ)} {request : Request} (words : List (List ℕ)) (answer : Answer) (result : ℕ) → wanted ≢ 6 → request_of words ≡ Some request → Answers texts before now request answer → (result ≡ answer.status) ⊎ (result ≡ 6) → result ≡ wanted → ShaderRead words texts before now Holds
+  shader_cause words answer result not_six asked a cases is = shader_cause_by _ _ _ words a.given a.answered (status_is answer.status result cases wanted is not_six) asked
+
+some_errors : (count : ℕ) → ◌≡◌ {A = ℕ} (if count == 0 then 0 else 1) 1 → count ≢ 0
+some_errors count is none = no_error (subst (λ n. ◌≡◌ {A = ℕ} (if n == 0 then 0 else 1) 1) none is) where
+  no_error : ◌≡◌ {A = ℕ} 0 1 → ⊥
+  no_error e = cc
+
+one_holds : (bytes : List ℕ) (answer : Answer) → IsChecked bytes answer → answer.status ≡ 1 → Rejects bytes
+one_holds bytes answer (leaves h) e = absurd (cc)
+one_holds bytes answer (judged {checked = shader} {violations = vs} stands are) e = record { shader = shader; stands = stands; violations = vs; are = are; errors = some_errors (count_of Error vs) e }
+
+no_verdict_two : (no_errors : Bool) → ◌≡◌ {A = ℕ} (if no_errors then 0 else 1) 2 → ⊥
+no_verdict_two true e = cc
+no_verdict_two false e = cc
+
+two_holds : (bytes : List ℕ) (answer : Answer) → IsChecked bytes answer → answer.status ≡ 2 → Leaves bytes
+two_holds bytes answer (leaves {offset = offset} h) e = (offset, h)
+two_holds bytes answer (judged {violations = vs} stands are) e = absurd (no_verdict_two (count_of Error vs == 0) e)
+
+module _ {texts : Option (List ℕ → Option (List ℕ))} {before now : List (List ℕ)} {request : Request} (words : List (List ℕ)) (answer : Answer) (result : ℕ) (asked : request_of words ≡ Some request) (a : Answers texts before now request answer) (cases : (result ≡ answer.status) ⊎ (result ≡ 6)) where
+  -- a call that ends with 1 read a shader with an error
+  pub one_has_cause : result ≡ 1 → ShaderRead words texts before now Rejects
+  one_has_cause = shader_cause Rejects 1 (λ e. cc) (λ shader bytes answer r. ran_other 1 (λ z. cc) (λ z. cc) (λ z. cc) (λ z. cc) r) one_holds words answer result (λ e. cc) asked a cases
+
+  -- a call that ends with 2 read a text that leaves the form
+  pub two_has_cause : result ≡ 2 → ShaderRead words texts before now Leaves
+  two_has_cause = shader_cause Leaves 2 (λ e. cc) (λ shader bytes answer r. ran_other 2 (λ z. cc) (λ z. cc) (λ z. cc) (λ z. cc) r) two_holds words answer result (λ e. cc) asked a cases

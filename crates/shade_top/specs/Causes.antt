@@ -1,11 +1,28 @@
--- When a run of a job ends as it does.
+-- Why a call ends as it does.
 use Rattle.std.specs.Prelude.{◌≡◌, ◌≢◌, ℕ, List, None}
+use Rattle.shade_base.specs.declared.severity.Severity.TheVariants.{Error}
 use Rattle.shade_core.specs.declared.module.CoreModule.{CoreModule}
+use Rattle.shade_verdict.specs.declared.violation.Violation.{Violation}
+use Rattle.shade_verdict.specs.Violations.{AreViolations}
+use Rattle.shade_report.specs.CheckReport.{count_of}
+use Rattle.shade_first.specs.FirstForm.{StandsFor, LeavesAt}
 use Rattle.shade_verdict.specs.Clean.{IsClean}
 use Rattle.shade_group.specs.declared.event.RunEnd.TheVariants.{Running}
 use Rattle.shade_group.specs.Group.{run_end_of}
 use Rattle.shade_job.specs.Steps.{States}
 use Rattle.shade_top.specs.Answer.{lanes_of, ran}
+
+-- The text leaves the first form.
+abbrev pub Leaves : List ℕ → Type 0
+Leaves bytes = (offset : ℕ) × LeavesAt bytes offset
+
+-- The text stands for a module with a violation that is an error.
+pub record Rejects (bytes : List ℕ) : Type 0 where
+  pub shader : CoreModule
+  pub stands : StandsFor bytes shader
+  pub violations : List Violation
+  pub are : AreViolations shader.functions violations
+  pub errors : count_of Error violations ≢ 0
 
 -- The machine still runs after the stated steps.
 abbrev pub Spends : CoreModule → List ℕ → Type 0

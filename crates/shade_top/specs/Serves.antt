@@ -4,7 +4,7 @@ use Rattle.shade_base.specs.Counter.{Rose}
 use Rattle.shade_base.specs.Shelf.{faults_of, front_of}
 use Rattle.shade_base.specs.Sink.{with_piece}
 use Rattle.shade_core.specs.declared.module.CoreModule.{CoreModule}
-use Rattle.shade_top.specs.Answer.{Answer, IsAnswer, Runs}
+use Rattle.shade_top.specs.Answer.{Answer, IsAnswer, Runs, fault_read}
 use Rattle.shade_top.specs.Request.{File, Run, request_of, files_of, shader_file, job_file}
 
 -- What a read of a file gave: the first bytes of its text, where the texts are told, or nothing where the name's count of faults rose.
@@ -12,11 +12,12 @@ abbrev pub IsReadOf : Option (List ℕ → Option (List ℕ)) → List (List ℕ
 IsReadOf texts failed failed' file None = faults_of file.name failed < faults_of file.name failed'
 IsReadOf texts failed failed' file (Some bytes) = IfSome texts (λ texts. front_of texts file.name file.limit ≡ Some bytes)
 
--- what the reads of the first of some files gave
-abbrev pub AreReadsOf : Option (List ℕ → Option (List ℕ)) → List (List ℕ) → List (List ℕ) → List File → List (Option (List ℕ)) → Type 0
-AreReadsOf texts failed failed' files [] = Unit {0}
-AreReadsOf texts failed failed' [] (read ∷ reads) = ⊥
-AreReadsOf texts failed failed' (file ∷ files) (read ∷ reads) = IsReadOf texts failed failed' file read × AreReadsOf texts failed failed' files reads
+-- Some files were read, one after another, from the first on: what their reads gave, and what they added to the failed names.
+abbrev pub AreReadsOf : Option (List ℕ → Option (List ℕ)) → List File → List (Option (List ℕ)) → List (List ℕ) → List (List ℕ) → Type 0
+AreReadsOf texts files [] failed failed' = failed' ≡ failed
+AreReadsOf texts [] (read ∷ reads) failed failed' = ⊥
+AreReadsOf texts (file ∷ files) (read ∷ reads) failed failed' =
+    (n : ℕ) × IsReadOf texts failed (failed ++ replicate n file.name) file read × AreReadsOf texts files reads (failed ++ replicate n file.name) failed'
 
 -- Failed names were added at the end: the first of some names, perhaps several times, then the second, and so on.
 abbrev pub Adds : List (List ℕ) → List (List ℕ) → List (List ℕ) → Type 0
@@ -26,13 +27,23 @@ Adds (name ∷ names) failed failed' = (n : ℕ) × Adds names (failed ++ replic
 abbrev pub names_of : List (List ℕ) → List (List ℕ)
 names_of words = map (λ (file : File). file.name) (files_of words)
 
--- some file that the words name failed to be read
-pub record FaultOf (words : List (List ℕ)) (failed failed' : List (List ℕ)) : Type 0 where
+-- A file that the words name failed to be read, and its name was printed.
+pub record FaultOf (words : List (List ℕ)) (failed failed' : List (List ℕ)) (taken taken' : Option (List ℕ)) : Type 0 where
   pub file : File
   pub before : List File
   pub after : List File
   pub named : files_of words ≡ before ++ file ∷ after
   pub rose : faults_of file.name failed < faults_of file.name failed'
+  pub told : taken' ≡ with_piece taken (fault_read file.name).text
+
+-- The shader that the words name was read, and of its bytes something holds.
+pub record ShaderRead (words : List (List ℕ)) (texts : Option (List ℕ → Option (List ℕ))) (failed failed' : List (List ℕ)) (Holds : List ℕ → Type 0) : Type 0 where
+  pub file : List ℕ
+  pub after : List File
+  pub named : files_of words ≡ shader_file file ∷ after
+  pub bytes : List ℕ
+  pub read : IsReadOf texts failed failed' (shader_file file) (Some bytes)
+  pub holds : Holds bytes
 
 -- Both files of a run were read, and of the module that its shader stands for and the bytes of its job something holds.
 pub record JobRead (words : List (List ℕ)) (texts : Option (List ℕ → Option (List ℕ))) (failed failed' : List (List ℕ)) (Holds : CoreModule → List ℕ → Type 0) : Type 0 where
@@ -48,16 +59,17 @@ pub record JobRead (words : List (List ℕ)) (texts : Option (List ℕ → Optio
   pub holds : Holds shader steps
 
 -- How a call ended that had an answer: with its status and its whole text written; with status 6 and a beginning of the text, and
--- then the sink's count of faults rose; or with status 7, for want of memory, and nothing written.
+-- then the sink's count of faults rose; or with status 7, for want of memory, and nothing written. The count never falls.
 pub record Ends (answer : Answer) (taken taken' : Option (List ℕ)) (faults faults' status : ℕ) : Type 0 where
+  pub later : faults ≤ faults'
   pub whole : status ≢ 6 → status ≢ 7 → (status ≡ answer.status) × (taken' ≡ with_piece taken answer.text)
   pub cut : status ≡ 6 → Rose faults faults' × ((n : ℕ) × (n ≤ length answer.text) × (taken' ≡ with_piece taken (take n answer.text)))
-  pub nothing : status ≡ 7 → taken' ≡ taken
+  pub nothing : status ≡ 7 → (taken' ≡ taken) × (faults' ≡ faults)
 
 -- The status and the bytes written are those of the answer to the words and to what the shelf gave for the files that they name.
 pub record Serves (words : List (List ℕ)) (texts : Option (List ℕ → Option (List ℕ))) (failed failed' : List (List ℕ)) (taken taken' : Option (List ℕ)) (faults faults' status : ℕ) : Type 0 where
   pub reads : List (Option (List ℕ))
   pub answer : Answer
-  pub given : status ≢ 7 → AreReadsOf texts failed failed' (files_of words) reads
+  pub given : status ≢ 7 → AreReadsOf texts (files_of words) reads failed failed'
   pub answered : status ≢ 7 → IsAnswer words reads answer
   pub ends : Ends answer taken taken' faults faults' status

@@ -4,9 +4,9 @@ ghost use Rattle.std.specs.Prelude.{◌≡◌, ◌≢◌, ◌≤◌, ◌⊎◌, 
 ghost use Rattle.std.specs.String.{string_bytes};
 ghost use Rattle.shade_base.specs.Counter.{Rose};
 ghost use Rattle.shade_top.specs.Answer.{NoJob};
-ghost use Rattle.shade_top.specs.Causes.{Diverges, Spends};
+ghost use Rattle.shade_top.specs.Causes.{Diverges, Leaves, Rejects, Spends};
 ghost use Rattle.shade_top.specs.Request.{request_of as request_in};
-ghost use Rattle.shade_top.specs.Serves.{Adds, Ends, FaultOf, JobRead, Serves, names_of};
+ghost use Rattle.shade_top.specs.Serves.{Adds, Ends, FaultOf, JobRead, Serves, ShaderRead, names_of};
 
 use crate::report::report_on;
 use crate::request::request_of;
@@ -32,13 +32,16 @@ pub fn serve<H: Shelf, K: Sink>(
     ensures texts { H.texts shelf.new ≡ H.texts shelf.old }
     // no other name than those of the files in the words joins the failed names
     ensures names { Adds (names_of (map (λ word. string_bytes word) words.now)) (H.failed shelf.old) (H.failed shelf.new) }
+    // 1 only where the shader has a violation that is an error, 2 only where its text leaves the first form
+    ensures rejected { result.0 ≡ 1 → ShaderRead (map (λ word. string_bytes word) words.now) (H.texts shelf.old) (H.failed shelf.old) (H.failed shelf.new) Rejects }
+    ensures refused { result.0 ≡ 2 → ShaderRead (map (λ word. string_bytes word) words.now) (H.texts shelf.old) (H.failed shelf.old) (H.failed shelf.new) Leaves }
     // 3 only where the words fit no form, and then 3, or 6 where the write failed
     ensures bad_words { result.0 ≡ 3 → IsNone (request_in (map (λ word. string_bytes word) words.now)) }
     ensures no_form { IsNone (request_in (map (λ word. string_bytes word) words.now)) → (result.0 ≡ 3) ⊎ (result.0 ≡ 6) }
     // 4 only where the bytes of the job state no list of lanes
     ensures refused_job { result.0 ≡ 4 → JobRead (map (λ word. string_bytes word) words.now) (H.texts shelf.old) (H.failed shelf.old) (H.failed shelf.new) NoJob }
-    // 5 only where the shelf's count of faults of a named file rose
-    ensures fault_read { result.0 ≡ 5 → FaultOf (map (λ word. string_bytes word) words.now) (H.failed shelf.old) (H.failed shelf.new) }
+    // 5 only where the shelf's count of faults of the printed name rose
+    ensures fault_read { result.0 ≡ 5 → FaultOf (map (λ word. string_bytes word) words.now) (H.failed shelf.old) (H.failed shelf.new) (K.taken out.old) (K.taken out.new) }
     // 6 only where the sink's count of faults rose
     ensures fault_write { result.0 ≡ 6 → Rose (K.faults out.old) (K.faults out.new) }
     // 8 only where the machine diverged under the steps of the job, and never where the shader is clean

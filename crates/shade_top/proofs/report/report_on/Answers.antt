@@ -5,16 +5,16 @@ use Rattle.shade_top.proofs.report.report_on.Goals as goal
 
 pub returns-in-Some-clause-answers : goal.returns-in-Some-clause-answers
 returns-in-Some-clause-answers g c =
-    check_read answer_of c.check.result _ _ _ (request_seen c.args.request) c.in-Check.file.now c.in-Some.bytes.items _ (ap request_seen c.in-Check.is) c.in_ok-bytes-in-Check.ensures.given (search rules) (rw c.deref.ensures.value at c.check.ensures)
+    check_read answer_of c.check.result _ _ _ (request_seen c.args.request) c.in-Check.file.now _ c.in_ok-bytes-in-Check.ensures.names.1 _ c.in_ok-bytes-in-Check.ensures.given c.in-Some.bytes.items (ap request_seen c.in-Check.is) (search rules) (rw c.deref.ensures.value at c.check.ensures)
 
 pub returns-in-None-clause-answers : goal.returns-in-None-clause-answers
 returns-in-None-clause-answers g c =
-    check_fault answer_of c.fault.result _ _ _ (request_seen c.args.request) c.in-Check.file.now _ (ap request_seen c.in-Check.is) c.in_ok-bytes-in-Check.ensures.given (search rules) c.fault.ensures
+    check_fault answer_of c.fault.result _ _ _ (request_seen c.args.request) c.in-Check.file.now _ c.in_ok-bytes-in-Check.ensures.names.1 _ c.in_ok-bytes-in-Check.ensures.given (ap request_seen c.in-Check.is) (search rules) c.fault.ensures
 
 pub returns-in-Some-2-clause-answers : goal.returns-in-Some-2-clause-answers
 returns-in-Some-2-clause-answers g c =
-    run_read _ _ _ _ answer_of c.run_bytes.result c.in-Run.file.now c.in-Run.job.now c.in-Some-2.bytes.items _ (request_seen c.args.request) _ (ap request_seen c.in-Run.is) c.in_ok-bytes-in-Run.ensures.names.1 c.in_ok-bytes-in-Run.ensures.given (search rules) (rw (c.deref-in-Some-2.ensures.value, c.in_ok-bytes-in-Run.ensures.texts) at c.run_bytes.ensures.answers)
+    run_read _ _ _ _ c.in-Run.file.now c.in-Run.job.now _ c.in_ok-bytes-in-Run.ensures.names.1 answer_of c.run_bytes.result c.in-Some-2.bytes.items _ (request_seen c.args.request) (ap request_seen c.in-Run.is) c.in_ok-bytes-in-Run.ensures.given (search rules) (rw (c.deref-in-Some-2.ensures.value, c.in_ok-bytes-in-Run.ensures.texts) at c.run_bytes.ensures.answers)
 
 pub returns-in-None-2-clause-answers : goal.returns-in-None-2-clause-answers
 returns-in-None-2-clause-answers g c =
-    run_fault answer_of c.fault-in-None-2.result _ _ _ (request_seen c.args.request) c.in-Run.file.now c.in-Run.job.now _ (ap request_seen c.in-Run.is) c.in_ok-bytes-in-Run.ensures.given (search rules) c.fault-in-None-2.ensures
+    run_fault answer_of c.fault-in-None-2.result _ _ _ (request_seen c.args.request) c.in-Run.file.now _ c.in_ok-bytes-in-Run.ensures.names.1 _ c.in_ok-bytes-in-Run.ensures.given c.in-Run.job.now (ap request_seen c.in-Run.is) (search rules) c.fault-in-None-2.ensures

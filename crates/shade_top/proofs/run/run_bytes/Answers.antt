@@ -7,4 +7,4 @@ pub returns-in-Ok-clause-answers : goal.returns-in-Ok-clause-answers
 returns-in-Ok-clause-answers g c = text_stands answer_of c.run_shader.result _ _ _ c.in-Ok.shader c.args.bytes.now c.args.job.now c.in-Ok.ensures c.run_shader.ensures.answers
 
 pub returns-in-Err-NotYet-clause-answers : goal.returns-in-Err-NotYet-clause-answers
-returns-in-Err-NotYet-clause-answers g c = text_leaves answer_of c.not_yet.result _ _ _ c.args.bytes.now c.args.job.now c.in-Err-NotYet.offset (search rules) c.not_yet.ensures
+returns-in-Err-NotYet-clause-answers g c = text_leaves answer_of c.not_yet.result _ _ _ c.args.bytes.now c.args.job.now c.in-Err-NotYet.offset (search rules) (search rules) c.not_yet.ensures
