@@ -36,12 +36,13 @@ impl<'m> Group<'m> {
         Ok(self.settle(lane))
     }
 
-    /// The steps of a list of lane numbers. Where memory is wanting the group is as after the items before.
+    /// The steps of a list of lane numbers. Where memory is wanting the group is as after the items before
+    /// the one whose step found none.
     pub fn run_list(&mut self, numbers: &[u32]) -> Result<RunEnd, AllocError>
         requires { (i : ℕ) (n : ℕ) → slice_get numbers.now i ≡ Some n → n < length self.old.lanes.items }
         ensures ok { OnOk result (machine_of self.new ≡ run (machine_of self.old) numbers.now) }
         ensures end { IfOk result (λ end. end ≡ run_end_of (machine_of self.new)) }
-        ensures err { OnErr result ((n : ℕ) × (n ≤ length numbers.now) × (machine_of self.new ≡ run (machine_of self.old) (take n numbers.now))) }
+        ensures err { OnErr result ((n : ℕ) × (n < length numbers.now) × (machine_of self.new ≡ run (machine_of self.old) (take n numbers.now))) }
         ensures lanes { length self.new.lanes.items ≡ length self.old.lanes.items }
     {
         for number in numbers {
