@@ -15,7 +15,7 @@ use Rattle.shade_values.specs.declared.types.Space.{Space}
 use Rattle.shade_lane.specs.declared.state.LaneState.TheVariants.{Able, Waiting, Ended}
 use Rattle.shade_group.specs.declared.event.Epochs.{Epochs}
 use Rattle.shade_group.specs.Group.{Machine, able_from, least_unlike, parted, parted_event, waited, waited_event, ended, ended_event, release_by, released_event, met, raised, end_by, same_instance, unlike, unlike_from, all_wait, all_ended, acts, counted, stuttered, settled, settled_event, step, step_of, step_by, event, event_of, event_by, run}
-use Rattle.shade_group.specs.Seen.{members_of, state_at, machine_from}
+use Rattle.shade_group.specs.Inside.{members_of, state_at, machine_from}
 
 pub same_words : (xs ys : List ℕ) → pointwise nat_eq xs ys ≡ same_instance xs ys
 same_words [] [] = refl

@@ -11,7 +11,7 @@ use Rattle.shade_lane.specs.Lane.{global_part}
 use Rattle.shade_lane.specs.Members.{begin_member}
 use Rattle.shade_lane.specs.Seen.{Seen, member_of}
 use Rattle.shade_group.specs.Group.{IsRunnable, sized_runs, entry_runs, lane_count, builtins_of, members_from}
-use Rattle.shade_group.specs.Seen.{members_of}
+use Rattle.shade_group.specs.Inside.{members_of}
 
 pub pos_left : (x c : ℕ) → 0 < x * c → 0 < x
 pos_left zero c h = let e : zero * c ≡ 0 = zero-mul c in absurd (omega (arith, e, h))

@@ -210,6 +210,10 @@ end_by (Some pair) over = run_end.Diverged pair.0 pair.1
 abbrev pub run_end_of : Machine → RunEnd
 run_end_of m = end_by m.diverged (all_ended m.members)
 
+-- where the run is not over, some lane is able
+abbrev pub HasAble : Machine → Type 0
+HasAble m = run_end_of m ≡ run_end.Running → 1 ≤ length (able_lanes m)
+
 abbrev pub instances : Option Arrival → List (List ℕ)
 instances None = []
 instances (Some a) = a.instance ∷ []

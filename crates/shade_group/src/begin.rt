@@ -2,18 +2,21 @@
 
 ghost use Rattle.std.specs.Prelude.{◌≡◌, ℕ, ◌<◌, ◌≤◌, ◌*◌, ◌^◌, length, slice_index, IfOk};
 ghost use Rattle.shade_group.specs.Group.{begin as begin_of, builtins_of as builtins_at, IsRunnable, lane_count, members_from};
-ghost use Rattle.shade_group.specs.Seen.{machine_of, members_of};
+ghost use Rattle.shade_group.specs.Inside.{inside, members_of};
 ghost use Rattle.shade_lane.specs.Lane.{global_part};
 ghost use Rattle.shade_mem.specs.Inputs.{IsAllowed};
 
 use crate::event::Epochs;
 use crate::group::Group;
+use crate::workgroup::Workgroup;
 use shade_core::{CoreFunction, CoreModule};
 use shade_lane::{Builtins, Lane};
 use shade_mem::{Inputs, Memory};
 use std::alloc::{AllocError, Global};
 
 impl<'m> Group<'m> {
+    ghost use Rattle.shade_group.specs.Seen.{machine_of};
+
     /// The lanes of an entry before their first step. The inputs are those that a job may hand in, and the entry has
     /// at most 256 lanes and no statement without a case.
     pub fn begin(
@@ -25,20 +28,34 @@ impl<'m> Group<'m> {
         requires runs { IsRunnable «module».now inputs.now.entry }
         ensures { IfOk result (λ group. machine_of group ≡ begin_of «module».now inputs.now) }
     {
-        let lanes = entry_lanes(alloc, module, inputs)?;
-        Ok(Group {
-            lanes,
-            memory: Memory::begin(alloc, module, &inputs.words)?,
-            epochs: Epochs {
-                workgroup: 0,
-                storage: 0,
-            },
-            released: Vec::new(alloc),
-            diverged: None,
-            steps: 0,
-            stutters: 0,
-        })
+        let workgroup = workgroup_of(alloc, module, inputs)?;
+        Ok(Group { workgroup })
     }
+}
+
+/// The lanes of the entry, with their memory.
+fn workgroup_of<'m>(
+    alloc: Global,
+    module: &'m CoreModule,
+    inputs: &Inputs,
+) -> Result<Workgroup<'m>, AllocError>
+    requires allowed { IsAllowed «module».now inputs.now }
+    requires runs { IsRunnable «module».now inputs.now.entry }
+    ensures { IfOk result (λ workgroup. inside workgroup ≡ begin_of «module».now inputs.now) }
+{
+    let lanes = entry_lanes(alloc, module, inputs)?;
+    Ok(Workgroup {
+        lanes,
+        memory: Memory::begin(alloc, module, &inputs.words)?,
+        epochs: Epochs {
+            workgroup: 0,
+            storage: 0,
+        },
+        released: Vec::new(alloc),
+        diverged: None,
+        steps: 0,
+        stutters: 0,
+    })
 }
 
 /// The lanes of the entry.

@@ -5,7 +5,7 @@ ghost use Rattle.std.specs.Cmp.Lexicographic.{pointwise};
 ghost use Rattle.shade_group.specs.Group.{able_from, raised as raised_of, least_unlike as least_unlike_of, same_instance as same_instance_of, unlike as unlike_of};
 ghost use Rattle.std.specs.List.{list_all};
 ghost use Rattle.shade_base.specs.Counter.{one_more as one_more_of};
-ghost use Rattle.shade_group.specs.Seen.{members_of, state_at};
+ghost use Rattle.shade_group.specs.Inside.{members_of, state_at};
 ghost use Rattle.shade_lane.specs.Members.{freed, is_able as is_able_of, is_ended as is_ended_of, is_waiting as is_waiting_of};
 
 use crate::event::Epochs;

@@ -11,6 +11,7 @@ mod runnable;
 mod steps;
 #[cfg(test)]
 mod tests;
+mod workgroup;
 
 pub use event::{Epochs, GroupEvent, RunEnd};
 pub use group::Group;

@@ -1,28 +1,25 @@
-// The steps of a workgroup, and what is asked of it.
+// The step of a workgroup.
 
-ghost use Rattle.std.specs.Prelude.{◌≡◌, ℕ, ◌<◌, ◌≤◌, ◌^◌, length, take, slice_get, true, false, Some, None, IfOk, OnOk, OnErr, IfSome, vec_len, vec_capacity};
-ghost use Rattle.std.specs.List.{list_all};
-ghost use Rattle.shade_group.specs.Group.{event as event_of, ordered as ordered_of, parted, parted_event, released_event, run, run_end_of, settled, settled_event, step as step_of, release_by, stuttered, least_unlike, waiting_at, able_lanes, all_wait as all_wait_of, all_ended as all_ended_of};
-ghost use Rattle.std.specs.Option.{option_copied};
-ghost use Rattle.shade_group.specs.Seen.{machine_of, state_at};
+ghost use Rattle.std.specs.Prelude.{◌≡◌, ◌<◌, length, true, false, Some, None, IfOk, OnOk, OnErr, vec_len, vec_capacity};
+ghost use Rattle.shade_group.specs.Group.{event as event_of, ordered as ordered_of, parted, parted_event, released_event, settled, settled_event, step as step_of, release_by, stuttered, least_unlike, all_wait as all_wait_of, all_ended as all_ended_of};
+ghost use Rattle.shade_group.specs.Inside.{inside, state_at};
 ghost use Rattle.shade_lane.specs.Members.{is_able as is_able_of, is_waiting as is_waiting_of};
 
-use crate::event::{GroupEvent, RunEnd};
-use crate::group::Group;
+use crate::event::GroupEvent;
 use crate::lanes::{
-    able_at, able_count, all_ended, all_wait, free, is_able, is_waiting, least_unlike_at, one_more,
-    raised,
+    all_ended, all_wait, free, is_able, is_waiting, least_unlike_at, one_more, raised,
 };
+use crate::workgroup::Workgroup;
 use shade_lane::LaneState;
 use std::alloc::AllocError;
 
-impl<'m> Group<'m> {
+impl<'m> Workgroup<'m> {
     /// One step of the lane with this number, and what it was. Where memory is wanting the group is as before.
-    pub fn step(&mut self, lane: u32) -> Result<GroupEvent, AllocError>
+    pub(crate) fn step(&mut self, lane: u32) -> Result<GroupEvent, AllocError>
         requires { lane < length self.old.lanes.items }
-        ensures ok { OnOk result (machine_of self.new ≡ step_of (machine_of self.old) lane) }
-        ensures event { IfOk result (λ e. e ≡ event_of (machine_of self.old) lane) }
-        ensures err { OnErr result (machine_of self.new ≡ machine_of self.old) }
+        ensures ok { OnOk result (inside self.new ≡ step_of (inside self.old) lane) }
+        ensures event { IfOk result (λ e. e ≡ event_of (inside self.old) lane) }
+        ensures err { OnErr result (inside self.new ≡ inside self.old) }
         ensures lanes { length self.new.lanes.items ≡ length self.old.lanes.items }
     {
         self.released.reserve(1)?;
@@ -36,98 +33,9 @@ impl<'m> Group<'m> {
         Ok(self.settle(lane))
     }
 
-    /// The steps of a list of lane numbers. Where memory is wanting the group is as after the items before.
-    pub fn run_list(&mut self, numbers: &[u32]) -> Result<RunEnd, AllocError>
-        requires { (i : ℕ) (n : ℕ) → slice_get numbers.now i ≡ Some n → n < length self.old.lanes.items }
-        ensures ok { OnOk result (machine_of self.new ≡ run (machine_of self.old) numbers.now) }
-        ensures end { IfOk result (λ end. end ≡ run_end_of (machine_of self.new)) }
-        ensures err { OnErr result ((n : ℕ) × (n ≤ length numbers.now) × (machine_of self.new ≡ run (machine_of self.old) (take n numbers.now))) }
-        ensures lanes { length self.new.lanes.items ≡ length self.old.lanes.items }
-    {
-        for number in numbers {
-            self.step(*number)?;
-        }
-        Ok(self.state())
-    }
-
-    /// How the run stands. Takes no memory.
-    pub fn state(&self) -> RunEnd
-        ensures { result ≡ run_end_of (machine_of self.now) }
-    {
-        match self.diverged {
-            Some((one, other)) => RunEnd::Diverged(one, other),
-            None => if self.all_ended() {
-                RunEnd::Ended
-            } else {
-                RunEnd::Running
-            },
-        }
-    }
-
-    /// How many steps were taken, with the stutters. Takes no memory.
-    pub fn steps(&self) -> u64
-        ensures { result ≡ (machine_of self.now).steps }
-    {
-        self.steps
-    }
-
-    /// How many of the steps were stutters. Takes no memory.
-    pub fn stutters(&self) -> u64
-        ensures { result ≡ (machine_of self.now).stutters }
-    {
-        self.stutters
-    }
-
-    /// How many instances were released. Takes no memory.
-    pub fn released(&self) -> u64
-        ensures { result ≡ length (machine_of self.now).released }
-    {
-        self.released.len() as u64
-    }
-
-    /// The words of the released instance with this number, from 0. Takes no memory.
-    pub fn released_at(&self, k: u64) -> &[u32]
-        requires { k < length (machine_of self.now).released }
-        ensures { slice_get (machine_of self.now).released k ≡ Some result.now }
-    {
-        self.released[k as usize].as_slice()
-    }
-
-    /// How many lanes may step. Takes no memory.
-    pub fn able_count(&self) -> u32
-        ensures { result ≡ length (able_lanes (machine_of self.now)) }
-    {
-        able_count(&self.lanes)
-    }
-
-    /// The number of the lane at this place of those that may step, by number. Takes no memory.
-    pub fn able_at(&self, k: u32) -> u32
-        requires { k < length (able_lanes (machine_of self.now)) }
-        ensures { slice_get (able_lanes (machine_of self.now)) k ≡ Some result }
-    {
-        able_at(&self.lanes, k)
-    }
-
-    /// The words of the instance at which a lane waits, where it waits. Takes no memory.
-    pub fn waiting(&self, lane: u32) -> Option<&[u32]>
-        ensures { option_copied result ≡ waiting_at (machine_of self.now) lane }
-    {
-        match self.lanes.get(lane as usize)?.state() {
-            LaneState::Waiting(_, instance) => Some(instance.as_slice()),
-            LaneState::Able | LaneState::Ended => None,
-        }
-    }
-
-    /// How many lanes there are. Takes no memory.
-    pub fn lanes(&self) -> u32
-        ensures { result ≡ length (machine_of self.now).members }
-    {
-        self.lanes.len() as u32
-    }
-
     /// Counts a step that changes nothing else.
     fn stutter(&mut self)
-        ensures machine { machine_of self.new ≡ stuttered (machine_of self.old) }
+        ensures machine { inside self.new ≡ stuttered (inside self.old) }
         ensures lanes { length self.new.lanes.items ≡ length self.old.lanes.items }
     {
         self.steps = one_more(self.steps);
@@ -138,8 +46,8 @@ impl<'m> Group<'m> {
     fn settle(&mut self, number: u32) -> GroupEvent
         requires room { vec_len self.old.released < vec_capacity self.old.released }
         requires within { number < length self.old.lanes.items }
-        ensures machine { machine_of self.new ≡ settled number (state_at self.old.lanes.items number) (machine_of self.old) }
-        ensures event { result ≡ settled_event number (state_at self.old.lanes.items number) (machine_of self.old) }
+        ensures machine { inside self.new ≡ settled number (state_at self.old.lanes.items number) (inside self.old) }
+        ensures event { result ≡ settled_event number (state_at self.old.lanes.items number) (inside self.old) }
         ensures lanes { length self.new.lanes.items ≡ length self.old.lanes.items }
     {
         if self.is_able_at(number) {
@@ -156,9 +64,9 @@ impl<'m> Group<'m> {
         requires room { vec_len self.old.released < vec_capacity self.old.released }
         requires within { number < length self.old.lanes.items }
         requires stopped { is_able_of (state_at self.old.lanes.items number) ≡ false }
-        requires alike { least_unlike (state_at self.old.lanes.items number) (machine_of self.old).members ≡ None }
-        ensures machine { machine_of self.new ≡ settled number (state_at self.old.lanes.items number) (machine_of self.old) }
-        ensures event { result ≡ settled_event number (state_at self.old.lanes.items number) (machine_of self.old) }
+        requires alike { least_unlike (state_at self.old.lanes.items number) (inside self.old).members ≡ None }
+        ensures machine { inside self.new ≡ settled number (state_at self.old.lanes.items number) (inside self.old) }
+        ensures event { result ≡ settled_event number (state_at self.old.lanes.items number) (inside self.old) }
         ensures lanes { length self.new.lanes.items ≡ length self.old.lanes.items }
     {
         if self.is_waiting_at(number) {
@@ -189,26 +97,26 @@ impl<'m> Group<'m> {
 
     fn unlike_at(&self, number: u32) -> Option<u32>
         requires { number < length self.now.lanes.items }
-        ensures { result ≡ least_unlike (state_at self.now.lanes.items number) (machine_of self.now).members }
+        ensures { result ≡ least_unlike (state_at self.now.lanes.items number) (inside self.now).members }
     {
         least_unlike_at(&self.lanes, number)
     }
 
     fn all_wait(&self) -> bool
-        ensures { result ≡ all_wait_of (machine_of self.now).members }
+        ensures { result ≡ all_wait_of (inside self.now).members }
     {
         all_wait(&self.lanes)
     }
 
-    fn all_ended(&self) -> bool
-        ensures { result ≡ all_ended_of (machine_of self.now).members }
+    pub(crate) fn all_ended(&self) -> bool
+        ensures { result ≡ all_ended_of (inside self.now).members }
     {
         all_ended(&self.lanes)
     }
 
     /// Two lanes stopped unlike each other.
     fn part(&mut self, number: u32, other: u32) -> GroupEvent
-        ensures machine { machine_of self.new ≡ parted number other (machine_of self.old) }
+        ensures machine { inside self.new ≡ parted number other (inside self.old) }
         ensures event { result ≡ parted_event number other }
         ensures lanes { length self.new.lanes.items ≡ length self.old.lanes.items }
     {
@@ -221,8 +129,8 @@ impl<'m> Group<'m> {
     fn release(&mut self, number: u32) -> GroupEvent
         requires room { vec_len self.old.released < vec_capacity self.old.released }
         requires within { number < length self.old.lanes.items }
-        requires wait { all_wait_of (machine_of self.old).members ≡ true }
-        ensures machine { machine_of self.new ≡ release_by (state_at self.old.lanes.items number) (machine_of self.old) }
+        requires wait { all_wait_of (inside self.old).members ≡ true }
+        ensures machine { inside self.new ≡ release_by (state_at self.old.lanes.items number) (inside self.old) }
         ensures event { result ≡ released_event (length self.old.released.items) }
         ensures lanes { length self.new.lanes.items ≡ length self.old.lanes.items }
     {

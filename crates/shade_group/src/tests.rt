@@ -1,5 +1,6 @@
 ghost use Rattle.std.specs.Prelude.{◌≡◌, ℕ, ◌<◌, [], true, is_some, IfOk, Some, length, nat_lt, slice_get};
 ghost use Rattle.std.specs.List.{list_all};
+ghost use Rattle.shade_group.specs.Seen.{machine_of};
 ghost use Rattle.shade_mem.specs.Inputs.{size_of};
 
 use super::*;
@@ -114,17 +115,17 @@ fn begin<'m>(
 }
 
 /// Whether all numbers are below a count.
-fn all_below(numbers: &[u32], count: usize) -> bool
+fn all_below(numbers: &[u32], count: u32) -> bool
     ensures { result ≡ list_all (λ n. nat_lt n count) numbers.now }
 {
-    numbers.iter().all(|number| (*number as usize) < count)
+    numbers.iter().all(|number| *number < count)
 }
 
 /// Whether all numbers are those of lanes.
 fn are_lanes(group: &Group, numbers: &[u32]) -> bool
-    ensures { result ≡ true → (i : ℕ) (n : ℕ) → slice_get numbers.now i ≡ Some n → n < length group.now.lanes.items }
+    ensures { result ≡ true → (i : ℕ) (n : ℕ) → slice_get numbers.now i ≡ Some n → n < length (machine_of group.now).members }
 {
-    all_below(numbers, group.lanes.len())
+    all_below(numbers, group.lanes())
 }
 
 #[test]
@@ -187,7 +188,7 @@ fn events(rt: HostRuntime) -> Result<(), Fail> {
         let module = module_of(alloc, stands)?;
         let mut group = begin(&rt, alloc, &module)?;
         for (lane, event) in steps {
-            assert!(rt; (*lane as usize) < group.lanes.len());
+            assert!(rt; *lane < group.lanes());
             assert_eq!(rt; group.step(*lane)?, *event, "{lane}");
         }
     }

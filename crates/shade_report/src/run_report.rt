@@ -1,6 +1,6 @@
 //! The report of a run.
 
-ghost use Rattle.std.specs.Prelude.{◌≡◌, ◌++◌, IfOk, length, string_bytes};
+ghost use Rattle.std.specs.Prelude.{◌≡◌, ◌++◌, [], IfOk, length, string_bytes};
 ghost use Rattle.shade_group.specs.Group.{run_end_of};
 ghost use Rattle.shade_group.specs.Seen.{machine_of};
 ghost use Rattle.shade_report.specs.RunReport.{end_word, lane_line, lane_lines, release_line, release_lines, released_line, run_line, run_report};
@@ -99,12 +99,10 @@ fn add_releases(
 }
 
 /// The report of a run of the module: how it ended with the counts of steps and stutters, the two lanes at which it
-/// diverged, the released instances, and the races. Refused only for want of memory.
-pub fn run_text(
-    alloc: Global,
-    shader: &CoreModule,
-    group: &Group,
-) -> Result<Vec<u8>, AllocError>
+/// diverged, the released instances, and the races. The module has no roots: no lines of buffers are written yet.
+/// Refused only for want of memory.
+pub fn run_text(alloc: Global, shader: &CoreModule, group: &Group) -> Result<Vec<u8>, AllocError>
+    requires { shader.now.roots ≡ [] }
     ensures { IfOk result (λ text. text.items ≡ run_report shader.now.functions (machine_of group.now)) }
 {
     let functions = shader.functions.as_slice();

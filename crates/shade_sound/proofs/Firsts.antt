@@ -76,7 +76,7 @@ before_last [] s = refl
 before_last (x ∷ statements) s = ap (statement_code x) (before_last statements s)
 
 -- the control of a shader's function
-body_items : (s : FirstShader) (statements : List CoreStatement) (next : ℕ) → Lowers s.items 0 statements next → Items 0 (jump next (Return None) done) (code_of (function_of s statements next).body)
+pub body_items : (s : FirstShader) (statements : List CoreStatement) (next : ℕ) → Lowers s.items 0 statements next → Items 0 (jump next (Return None) done) (code_of (function_of s statements next).body)
 body_items s statements next l =
     let whole : code_of (function_of s statements next).body ≡ before statements (jump next (Return None) done) = before_last statements (last_return next s.end) ∙ ap (before statements) (return_code next s.end None done) in
     subst (λ c. Items 0 (jump next (Return None) done) c) (sym whole) (items_of l (jump next (Return None) done))
@@ -90,7 +90,7 @@ function_flat functions s statements next l is clean =
     (omega arith) (differs refl refl local_index) Start flat_return (body_items s statements next l) (whole_within f)
 
 -- a module with one function has no other
-only_one : (one f : CoreFunction) (k : ℕ) → slice_get (one ∷ []) k ≡ Some f → f ≡ one
+pub only_one : (one f : CoreFunction) (k : ℕ) → slice_get (one ∷ []) k ≡ Some f → f ≡ one
 only_one one f zero e = cc
 only_one one f (suc k) e = let no_one : ⊥ = cc in absurd no_one
 
@@ -153,13 +153,17 @@ none_among h = nothing h refl where
   nothing here e = cc
   nothing (later h) e = cc
 
+-- no function of a shader drops a requirement
+pub none_off : (text : List ℕ) (shader : CoreModule) → StandsFor text shader → (k : ℕ) (f : CoreFunction) → slice_get shader.functions k ≡ Some f → HasOff (code_of f.body) → ⊥
+none_off text shader stands k f at off =
+    let one : CoreFunction = function_of stands.shader stands.stands.statements stands.stands.next in
+    let same : f ≡ one = only_one one f k (sym (ap (λ fs. slice_get fs k) stands.stands.functions) ∙ at) in
+    no_off (body_items stands.shader stands.stands.statements stands.stands.next stands.stands.lowered) off_cases (subst (λ (g : CoreFunction). HasOff (code_of g.body)) same off)
+
 pub clean : CleanWithoutViolations
 clean text shader stands violations = record {
   none = λ number severity node v. none_among (violations.complete number severity node v).1;
-  asked = λ k f at off.
-      (let one : CoreFunction = function_of stands.shader stands.stands.statements stands.stands.next in
-      let same : f ≡ one = only_one one f k (sym (ap (λ fs. slice_get fs k) stands.stands.functions) ∙ at) in
-      no_off (body_items stands.shader stands.stands.statements stands.stands.next stands.stands.lowered) off_cases (subst (λ (g : CoreFunction). HasOff (code_of g.body)) same off));
+  asked = none_off text shader stands;
 }
 
 -- ---- the start

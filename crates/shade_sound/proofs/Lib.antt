@@ -2,3 +2,4 @@ mod Regions
 mod Owed
 mod Runs
 mod Firsts
+mod Severities

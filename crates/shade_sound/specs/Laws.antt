@@ -1,7 +1,10 @@
 -- The convergence of clean shaders of the first form, over all lists of lane steps. Lists may name any numbers: a number that is no
 -- lane's is a step that changes nothing but the counts.
-use Rattle.std.specs.Prelude.{◌≡◌, ◌⊎◌, ℕ, Bool, true, false, List, [], ◌++◌, Option, None, Some, slice_get}
+use Rattle.std.specs.Prelude.{◌≡◌, ◌⊎◌, ◌↔◌, ℕ, Bool, true, false, List, [], ◌++◌, Option, None, Some, slice_get}
+use Rattle.shade_base.specs.declared.severity.Severity.TheVariants.{Error}
 use Rattle.shade_core.specs.declared.module.CoreModule.{CoreModule}
+use Rattle.shade_graph.specs.Graph.{Among}
+use Rattle.shade_verdict.specs.declared.violation.Violation.{Violation}
 use Rattle.shade_verdict.specs.Violations.{AreViolations}
 use Rattle.shade_verdict.specs.Clean.{IsClean}
 use Rattle.shade_first.specs.FirstForm.{StandsFor}
@@ -12,6 +15,14 @@ use Rattle.shade_group.specs.Group.{Machine, IsRunnable, begin, run, trace}
 -- A shader of the first form whose violations are the empty list is clean.
 abbrev pub CleanWithoutViolations : Type 0
 CleanWithoutViolations = (text : List ℕ) (shader : CoreModule) → StandsFor text shader → AreViolations shader.functions [] → IsClean shader.functions
+
+-- some violation is an error
+abbrev pub HasError : List Violation → Type 0
+HasError violations = (v : Violation) × Among v violations × (v.severity ≡ Error)
+
+-- A shader of the first form is clean exactly where none of its violations is an error: its barriers ask with no other severity.
+abbrev pub CleanWithoutErrors : Type 0
+CleanWithoutErrors = (text : List ℕ) (shader : CoreModule) (violations : List Violation) → StandsFor text shader → AreViolations shader.functions violations → ((HasError violations → ⊥) ↔ IsClean shader.functions)
 
 -- The machine runs each shader of the first form, whose one function is its entry.
 abbrev pub FirstFormRuns : Type 0

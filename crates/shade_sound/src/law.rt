@@ -1,9 +1,14 @@
 // The headline: clean shaders converge at their barriers.
-ghost use Rattle.shade_sound.specs.Laws.{CleanWithoutViolations, FirstFormRuns, NeverDiverges, TracesAgree};
+ghost use Rattle.shade_sound.specs.Laws.{CleanWithoutErrors, CleanWithoutViolations, FirstFormRuns, NeverDiverges, TracesAgree};
 
 /// A shader of the first form for which a check tells no violation is clean.
 pub fn no_violation_is_clean()
     ensures { CleanWithoutViolations }
+{}
+
+/// A shader of the first form is clean exactly where a check tells no error.
+pub fn clean_without_errors()
+    ensures { CleanWithoutErrors }
 {}
 
 /// The machine runs each shader of the first form.

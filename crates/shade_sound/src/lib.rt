@@ -3,4 +3,7 @@
 
 mod law;
 
-pub use law::{clean_never_diverges, clean_traces_agree, first_form_runs, no_violation_is_clean};
+pub use law::{
+    clean_never_diverges, clean_traces_agree, clean_without_errors, first_form_runs,
+    no_violation_is_clean,
+};

@@ -1,7 +1,7 @@
 use Rattle.std.proofs.Common.{◌<◌, ◌-◌, ◌+◌, ◌∙◌, ◌++◌, ap, length, rules}
 use Rattle.shade_lane.specs.Members.{begin_member}
 use Rattle.shade_group.specs.Group.{lane_count, members_from}
-use Rattle.shade_group.specs.Seen.{members_of}
+use Rattle.shade_group.specs.Inside.{members_of}
 use Rattle.shade_group.proofs.SizeLaws.{one_more_lane, length_push}
 use Rattle.shade_group.proofs.begin.lanes_of.Goals as goal
 

@@ -1,6 +1,6 @@
 use Rattle.std.proofs.Common.{◌≡◌, ◌++◌, ◌-◌, length}
 use Rattle.shade_group.specs.Group.{lane_count, members_from}
-use Rattle.shade_group.specs.Seen.{members_of}
+use Rattle.shade_group.specs.Inside.{members_of}
 use Rattle.shade_group.proofs.begin.lanes_of.Given as goal
 
 abbrev pub invariant-loop-number : goal.invariant-loop-number

@@ -1,7 +1,7 @@
 use Rattle.std.proofs.Common.{◌≡◌, drop}
 use Rattle.std.specs.Prelude.{slice_get}
 use Rattle.shade_group.specs.Group.{able_from}
-use Rattle.shade_group.specs.Seen.{members_of}
+use Rattle.shade_group.specs.Inside.{members_of}
 use Rattle.shade_group.proofs.lanes.able_at.Given as goal
 
 abbrev pub invariant-loop-lane : goal.invariant-loop-lane

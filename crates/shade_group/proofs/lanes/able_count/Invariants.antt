@@ -1,6 +1,6 @@
 use Rattle.std.proofs.Common.{◌≡◌, ◌+◌, ◌≤◌, drop, length}
 use Rattle.shade_group.specs.Group.{able_from}
-use Rattle.shade_group.specs.Seen.{members_of}
+use Rattle.shade_group.specs.Inside.{members_of}
 use Rattle.shade_group.proofs.lanes.able_count.Given as goal
 
 abbrev pub invariant-loop-lane : goal.invariant-loop-lane

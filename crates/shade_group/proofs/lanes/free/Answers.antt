@@ -1,7 +1,7 @@
 use Rattle.std.proofs.Common.{◌<◌, ◌≡◌, ◌∙◌, ◌⊎◌, sym, ap, length, rules}
 use Rattle.std.proofs.lemmas.List.{length-set}
 use Rattle.shade_lane.specs.Members.{is_waiting}
-use Rattle.shade_group.specs.Seen.{state_at}
+use Rattle.shade_group.specs.Inside.{state_at}
 use Rattle.shade_group.proofs.LaneLaws.{free_step, rest_next, state_next, kept_next, wait_at}
 use Rattle.shade_group.proofs.lanes.free.Goals as goal
 

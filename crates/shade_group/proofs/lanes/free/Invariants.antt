@@ -1,6 +1,6 @@
 use Rattle.std.proofs.Common.{◌≡◌, ◌<◌, ◌++◌, take, drop, map, length}
 use Rattle.shade_lane.specs.Members.{freed}
-use Rattle.shade_group.specs.Seen.{members_of, state_at}
+use Rattle.shade_group.specs.Inside.{members_of, state_at}
 use Rattle.shade_group.proofs.lanes.free.Given as goal
 
 abbrev pub invariant-loop-index : goal.invariant-loop-index

@@ -1,6 +1,6 @@
 use Rattle.std.proofs.Common.{◌≡◌, drop}
 use Rattle.shade_group.specs.Group.{unlike_from}
-use Rattle.shade_group.specs.Seen.{members_of}
+use Rattle.shade_group.specs.Inside.{members_of}
 use Rattle.shade_group.proofs.lanes.least_unlike.Given as goal
 
 abbrev pub invariant-loop-lane : goal.invariant-loop-lane

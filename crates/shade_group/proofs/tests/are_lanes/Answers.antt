@@ -3,6 +3,7 @@ use Rattle.std.proofs.lemmas.Bool.{ltb-true}
 use Rattle.std.specs.Prelude.{nat_lt, slice_get}
 use Rattle.std.specs.List.{list_all}
 use Rattle.shade_group.proofs.LaneLaws.{and_both}
+use Rattle.shade_group.specs.Seen.{machine_of}
 use Rattle.shade_group.proofs.tests.are_lanes.Goals as goal
 
 abbrev below_some : Option ℕ → ℕ → Bool
@@ -16,5 +17,5 @@ below (m ∷ numbers) count (suc i) n all found = below numbers count i n (and_b
 
 pub returns : goal.returns
 returns c holds i n found =
-    let all : list_all (λ m. nat_lt m (length c.args.group.now.lanes.items)) c.args.numbers.now ≡ true = search rules in
-    below c.args.numbers.now (length c.args.group.now.lanes.items) i n all found
+    let all : list_all (λ m. nat_lt m (length (machine_of c.args.group.now).members)) c.args.numbers.now ≡ true = search rules in
+    below c.args.numbers.now (length (machine_of c.args.group.now).members) i n all found

@@ -7,5 +7,5 @@ abbrev pub invariant-loop-number : goal.invariant-loop-number
 invariant-loop-number l = record {
   left : run (machine_of l.self) (drop l.number-index l.numbers) ≡ run (machine_of l.fn.self) l.numbers;
   done : machine_of l.self ≡ run (machine_of l.fn.self) (take l.number-index l.numbers);
-  lanes : length l.self.lanes.items ≡ length l.fn.self.lanes.items;
+  lanes : length (machine_of l.self).members ≡ length (machine_of l.fn.self).members;
 }

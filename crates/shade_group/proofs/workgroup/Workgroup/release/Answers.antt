@@ -2,7 +2,7 @@ use Rattle.std.proofs.Common.{◌≡◌, ◌++◌, ◌∷◌, [], ◌∙◌, sym
 use Rattle.std.proofs.lemmas.Grind.{common_steps}
 use Rattle.shade_lane.specs.Members.{is_waiting}
 use Rattle.shade_group.proofs.LaneLaws.{released_machine, waits_somewhere, all_wait_members, wait_at}
-use Rattle.shade_group.proofs.group.Group.release.Goals as goal
+use Rattle.shade_group.proofs.workgroup.Workgroup.release.Goals as goal
 
 pub returns-in-Waiting-clause-machine : goal.returns-in-Waiting-clause-machine
 returns-in-Waiting-clause-machine c =
