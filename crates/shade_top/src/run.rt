@@ -1,6 +1,6 @@
 //! The answer to a run of a shader by a job.
 
-ghost use Rattle.std.specs.Prelude.{◌≡◌, ◌<◌, ◌++◌, ℕ, length, replicate, slice_get, Some, IfOk};
+ghost use Rattle.std.specs.Prelude.{◌≡◌, ◌<◌, ◌++◌, [], ℕ, length, replicate, slice_get, Some, IfOk};
 ghost use Rattle.shade_group.specs.Group.{run};
 ghost use Rattle.shade_group.specs.Seen.{machine_of};
 ghost use Rattle.shade_top.specs.Answer.{inputs as run_inputs, IsRan, outcome, refused_job as refused_job_answer, run_status};
@@ -126,7 +126,8 @@ fn run_steps(
     group: &mut Group,
     steps: &[u32],
 ) -> Result<Report, AllocError>
-    requires { (i : ℕ) (n : ℕ) → slice_get steps.now i ≡ Some n → n < length (machine_of group.old).members }
+    requires below { (i : ℕ) (n : ℕ) → slice_get steps.now i ≡ Some n → n < length (machine_of group.old).members }
+    requires rootless { shader.now.roots ≡ [] }
     ensures { IfOk result (λ report. answer_of report ≡ outcome shader.now (run (machine_of group.old) steps.now)) }
 {
     let end = group.run_list(steps)?;

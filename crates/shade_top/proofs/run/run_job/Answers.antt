@@ -4,8 +4,8 @@ use Rattle.shade_top.specs.Report.{answer_of}
 use Rattle.shade_top.proofs.RunLaws.{job_below, run_answers, refusal_answers}
 use Rattle.shade_top.proofs.run.run_job.Goals as goal
 
-pub run_steps-requires : goal.run_steps-requires
-run_steps-requires c = rw c.deref.ensures.value (job_below c.lanes.result c.args.bytes.now c.in-Ok.steps.items (machine_of c.in_ok-group.group) c.lanes.ensures c.in-Ok.ensures)
+pub run_steps-requires-clause-below : goal.run_steps-requires-clause-below
+run_steps-requires-clause-below c = rw c.deref.ensures.value (job_below c.lanes.result c.args.bytes.now c.in-Ok.steps.items (machine_of c.in_ok-group.group) c.lanes.ensures c.in-Ok.ensures)
 
 pub returns-in-Ok : goal.returns-in-Ok
 returns-in-Ok c =
