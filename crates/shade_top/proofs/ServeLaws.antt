@@ -1,17 +1,21 @@
 -- What an answer makes of a call of the top call.
-use Rattle.std.proofs.Common.{◌≡◌, ◌≢◌, ◌<◌, ◌⊎◌, inl, inr, ◌∙◌, refl, sym, subst, ap, ℕ, ◌+◌, ◌≤◌, ◌==◌, if◌then◌else◌, Bool, true, false, List, [], ◌∷◌, ◌++◌, length, replicate, Option, None, Some, codes, arith}
+use Rattle.std.proofs.Common.{◌≡◌, ◌≢◌, ◌<◌, ◌⊎◌, inl, inr, ◌∙◌, refl, sym, subst, ap, ℕ, ◌+◌, ◌≤◌, ◌==◌, if◌then◌else◌, Bool, true, false, cond, List, [], ◌∷◌, ◌++◌, length, replicate, Option, None, Some, codes, arith}
 use Rattle.std.specs.Prelude.{IsNone}
 use Rattle.std.specs.List.{flat_map}
 use Rattle.std.specs.Fmt.{decimal}
 use Rattle.std.proofs.lemmas.List.{length-append}
+use Rattle.std.proofs.lemmas.List.Sums.{sum_by-append}
 use Rattle.shade_base.specs.declared.severity.Severity.TheVariants.{Error, Warning, Info}
 use Rattle.shade_core.specs.declared.module.CoreModule.{CoreModule}
+use Rattle.shade_verdict.specs.declared.violation.Violation.{Violation}
+use Rattle.shade_graph.specs.Graph.{Among, here, later}
+use Rattle.shade_graph.specs.Order.{severity_rank}
 use Rattle.shade_report.specs.CheckReport.{count_of, counts_text, violation_text}
 use Rattle.shade_report.specs.RunReport.{run_line, lane_lines, released_line, release_lines, end_word}
 use Rattle.shade_group.specs.declared.event.RunEnd.{RunEnd}
 use Rattle.shade_group.specs.declared.event.RunEnd.TheVariants as run_end
 use Rattle.shade_group.specs.Group.{Machine, run_end_of, end_by, all_ended}
-use Rattle.shade_sound.specs.Laws.{NeverDiverges}
+use Rattle.shade_sound.specs.Laws.{NeverDiverges, CleanWithoutErrors, HasError}
 use Rattle.shade_top.specs.Answer.{Answer, no_form, answered, IsAnswerTo, check_unread, checked, run_unread, stopped, job_unread, run_, IsChecked, leaves, judged, IsRan, no_job, job, NoJob, Runs, bad_words, fault_read, inputs, ran, outcome, run_status}
 use Rattle.shade_base.specs.Shelf.{faults_of}
 use Rattle.shade_base.specs.Sink.{with_piece}
@@ -179,6 +183,30 @@ module _ {texts : Option (List ℕ → Option (List ℕ))} {before now : List (L
   -- a call that ends with 9 read a job after whose steps the machine still runs
   pub nine_has_cause : result ≡ 9 → JobRead words texts before now Spends
   nine_has_cause = job_cause Spends 9 ((λ e. cc), (λ e. cc), λ e. cc) (λ e. cc) nine_holds words answer result (λ e. cc) asked a cases
+
+-- ---- no run diverges today
+
+error_rank : (v : Violation) → v.severity ≡ Error → ◌≡◌ {A = ℕ} (cond (severity_rank v.severity == severity_rank Error) 1 0) 1
+error_rank v is = ap (λ severity. cond {A = ℕ} (severity_rank severity == severity_rank Error) 1 0) is
+
+one_more_count : (v : Violation) (vs : List Violation) → count_of Error (v ∷ vs) ≡ (0 + cond (severity_rank v.severity == severity_rank Error) 1 0) + count_of Error vs
+one_more_count v vs = sum_by-append (λ (x : Violation). cond (severity_rank x.severity == severity_rank Error) 1 0) (v ∷ []) vs
+
+errors_count : (v : Violation) (vs : List Violation) → Among v vs → v.severity ≡ Error → 1 ≤ count_of Error vs
+errors_count v vs (here {rest = rest}) is =
+    let one : ◌≡◌ {A = ℕ} (cond (severity_rank v.severity == severity_rank Error) 1 0) 1 = error_rank v is in
+    let more : count_of Error (v ∷ rest) ≡ (0 + cond (severity_rank v.severity == severity_rank Error) 1 0) + count_of Error rest = one_more_count v rest in
+    omega arith
+errors_count v vs (later {other = other} {rest = rest} among) is =
+    let some : 1 ≤ count_of Error rest = errors_count v rest among is in
+    let more : count_of Error (other ∷ rest) ≡ (0 + cond (severity_rank other.severity == severity_rank Error) 1 0) + count_of Error rest = one_more_count other rest in
+    omega arith
+
+-- a shader that is run is clean
+pub eight_never : CleanWithoutErrors → {words : List (List ℕ)} {texts : Option (List ℕ → Option (List ℕ))} {before now : List (List ℕ)} → JobRead words texts before now Diverges → ⊥
+eight_never law j = j.holds.unclean ((law j.bytes j.shader j.runs.violations j.runs.stands j.runs.are).0 no_error) where
+  no_error : HasError j.runs.violations → ⊥
+  no_error h = let some : 1 ≤ count_of Error j.runs.violations = errors_count h.0 j.runs.violations h.1 h.2 in let none : count_of Error j.runs.violations ≡ 0 = j.runs.no_errors in omega arith
 
 -- ---- faults
 

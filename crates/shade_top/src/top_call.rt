@@ -11,7 +11,7 @@ ghost use Rattle.shade_top.specs.Serves.{Adds, Ends, FaultOf, JobRead, Serves, S
 use crate::report::report_on;
 use crate::request::request_of;
 use shade_base::{Shelf, Sink, Status};
-use shade_sound::clean_never_diverges;
+use shade_sound::{clean_never_diverges, clean_without_errors};
 use std::alloc::{AllocError, Global};
 
 /// Does what the words say: reads from the shelf, and writes one text to the sink.
@@ -44,12 +44,15 @@ pub fn serve<H: Shelf, K: Sink>(
     ensures fault_read { result.0 ≡ 5 → FaultOf (map (λ word. string_bytes word) words.now) (H.failed shelf.old) (H.failed shelf.new) (K.taken out.old) (K.taken out.new) }
     // 6 only where the sink's count of faults rose
     ensures fault_write { result.0 ≡ 6 → Rose (K.faults out.old) (K.faults out.new) }
-    // 8 only where the machine diverged under the steps of the job, and never where the shader is clean
+    // 8 only where the machine diverged under the steps of the job, and never where the shader is clean, as each shader
+    // of the first form is that has no error
     ensures diverged { result.0 ≡ 8 → JobRead (map (λ word. string_bytes word) words.now) (H.texts shelf.old) (H.failed shelf.old) (H.failed shelf.new) Diverges }
+    ensures converges { result.0 ≢ 8 }
     // 9 only where the machine still runs after the steps of the job
     ensures spent { result.0 ≡ 9 → JobRead (map (λ word. string_bytes word) words.now) (H.texts shelf.old) (H.failed shelf.old) (H.failed shelf.new) Spends }
 {
     clean_never_diverges();
+    clean_without_errors();
     let Some(request) = request_of(words) else {
         return written(out, 3, b"bad words\n");
     };

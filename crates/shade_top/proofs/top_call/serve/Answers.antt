@@ -1,7 +1,7 @@
 use Rattle.std.proofs.Common.{rules, map, sym}
 use Rattle.std.specs.String.{string_bytes}
 use Rattle.shade_top.specs.Report.{answer_of, request_seen}
-use Rattle.shade_top.proofs.ServeLaws.{fits, bad_serves, answer_serves, memory_serves, one_has_cause, two_has_cause, three_is_bad, four_has_cause, five_has_cause, eight_has_cause, nine_has_cause}
+use Rattle.shade_top.proofs.ServeLaws.{fits, bad_serves, answer_serves, memory_serves, one_has_cause, two_has_cause, three_is_bad, four_has_cause, five_has_cause, eight_has_cause, eight_never, nine_has_cause}
 use Rattle.shade_top.proofs.top_call.serve.Goals as goal
 
 pub returns-in_default-clause-serves : goal.returns-in_default-clause-serves
@@ -37,6 +37,9 @@ returns-in-Ok-clause-fault_read g c = five_has_cause (map (λ word. string_bytes
 
 pub returns-in-Ok-clause-diverged : goal.returns-in-Ok-clause-diverged
 returns-in-Ok-clause-diverged g c = eight_has_cause (map (λ word. string_bytes word) c.args.words.now) (answer_of c.in-Ok.report) _ (sym c.in-Some.ensures) c.in-Ok.ensures.answers c.written-in-Ok.ensures.cases c.clean_never_diverges.ensures
+
+pub returns-in-Ok-clause-converges : goal.returns-in-Ok-clause-converges
+returns-in-Ok-clause-converges g c = λ e. eight_never c.clean_without_errors.ensures (eight_has_cause (map (λ word. string_bytes word) c.args.words.now) (answer_of c.in-Ok.report) _ (sym c.in-Some.ensures) c.in-Ok.ensures.answers c.written-in-Ok.ensures.cases c.clean_never_diverges.ensures e)
 
 pub returns-in-Ok-clause-spent : goal.returns-in-Ok-clause-spent
 returns-in-Ok-clause-spent g c = nine_has_cause (map (λ word. string_bytes word) c.args.words.now) (answer_of c.in-Ok.report) _ (sym c.in-Some.ensures) c.in-Ok.ensures.answers c.written-in-Ok.ensures.cases
