@@ -1,6 +1,6 @@
 -- Lists of lanes.
 use Rattle.std.proofs.Common.{◌-◌, ◌≡◌, ℕ, zero, suc, ◌+◌, ◌<◌, Bool, true, false, ◌&&◌, List, [], ◌∷◌, ◌++◌, Option, Some, None, refl, ap, sym, ◌∙◌, map, take, drop, length, get_or, set, arith, add-one, drop-cons, nat_eq, ◌≤◌, ◌⊎◌, inl, inr}
-use Rattle.std.proofs.lemmas.List.{map-set, take_more}
+use Rattle.std.proofs.lemmas.List.{map-set, take_more, drop-set-lt}
 use Rattle.std.proofs.Math.Seq.{map-set_same}
 use Rattle.std.specs.Prelude.{slice_get, slice_set, is_none, is_some, Result, Ok, Err, OnErr, if◌then◌else◌}
 use Rattle.std.specs.List.{list_all}
@@ -139,13 +139,43 @@ step_stopped g lanes n l seen h is stops =
     let found : slice_get g.members n ≡ Some (member_of l) = ap (λ ms. slice_get ms n) seen ∙ found_is lanes n l h is in
     (ap (λ o. step_of n o g) found ∙ ap (λ b. step_by b n (member_of l) g) stops, ap (λ o. event_of n o g) found ∙ ap (λ b. event_by b n (member_of l) g) stops)
 
--- the lane that came last is freed twice
-pub freed_twice : (lanes : List Seen) (n : ℕ) (l after : Seen) → l ≡ get_or lanes n l → member_of after ≡ freed (member_of l) → map freed (members_of (slice_set lanes n after)) ≡ map freed (members_of lanes)
-freed_twice lanes n l after is e = both (slice_set lanes n after) ∙ (map-set_same (λ x. freed (member_of x)) lanes n after l (ap freed (e ∙ ap (λ x. freed (member_of x)) is)) ∙ sym (both lanes))
-  where
-    both : (xs : List Seen) → map freed (members_of xs) ≡ map (λ x. freed (member_of x)) xs
-    both [] = refl
-    both (x ∷ xs) = ap (λ ys. freed (member_of x) ∷ ys) (both xs)
+-- ---- all lanes are freed, one after another
+
+drop_one : {A : Type 0} (xs : List A) (i : ℕ) → drop 1 (drop i xs) ≡ drop (suc i) xs
+drop_one [] zero = refl
+drop_one [] (suc i) = refl
+drop_one (x ∷ xs) zero = refl
+drop_one (x ∷ xs) (suc i) = drop_one xs i
+
+-- the lanes behind stay as they were
+pub rest_next : (now first : List Seen) (i : ℕ) (new : Seen) → drop i now ≡ drop i first → drop (i + 1) (set now i new) ≡ drop (i + 1) first
+rest_next now first i new h =
+    drop-set-lt (i + 1) now i new (omega arith) ∙ (ap (λ j. drop j now) (add-one i) ∙ (sym (drop_one now i) ∙ (ap (drop 1) h ∙ (drop_one first i ∙ ap (λ j. drop j first) (sym (add-one i))))))
+
+state_first : (lanes rest : List Seen) (i : ℕ) (x : Seen) → drop i lanes ≡ x ∷ rest → state_at lanes i ≡ x.state
+state_first [] rest zero x e = cc
+state_first [] rest (suc i) x e = cc
+state_first (l ∷ lanes) rest zero x e = ap (λ ls. state_at ls 0) e
+state_first (l ∷ lanes) rest (suc i) x e = state_first lanes rest i x e
+
+-- the next one has the state that it had
+pub state_next : (now first : List Seen) (i : ℕ) (x : Seen) → i < length now → x ≡ get_or now i x → drop i now ≡ drop i first → state_at first i ≡ x.state
+state_next now first i x h is same = state_first first (drop (i + 1) now) i x (sym same ∙ drop_here now i x h is)
+
+-- the state of the lane with a number is kept when it comes by
+pub kept_next : (first : List Seen) (n i : ℕ) (state waited after : LaneState) → state_at first i ≡ state → (n < i → waited ≡ state_at first n)
+    → ((i ≡ n) × (after ≡ state)) ⊎ (¬ (i ≡ n) × (after ≡ waited)) → n < i + 1 → after ≡ state_at first n
+kept_next first n i state waited after is before (inl here) lt = here.1 ∙ (sym is ∙ ap (state_at first) here.0)
+kept_next first n i state waited after is before (inr there) lt = let apart : ¬ (i ≡ n) = there.0 in there.1 ∙ before (omega (arith, lt, apart))
+
+pub and_both : (a b : Bool) → (a && b) ≡ true → (a ≡ true) × (b ≡ true)
+and_both true b e = (refl, e)
+and_both false b e = cc
+
+pub wait_at : (lanes : List Seen) (i : ℕ) → i < length lanes → list_all (λ lane. is_waiting lane.state) lanes ≡ true → is_waiting (state_at lanes i) ≡ true
+wait_at [] i h e = absurd (omega arith)
+wait_at (l ∷ lanes) zero h e = (and_both (is_waiting l.state) (list_all (λ lane. is_waiting lane.state) lanes) e).0
+wait_at (l ∷ lanes) (suc i) h e = wait_at lanes i (omega arith) (and_both (is_waiting l.state) (list_all (λ lane. is_waiting lane.state) lanes) e).1
 
 -- ---- runs
 
@@ -207,14 +237,14 @@ same_lane [] n l x h is other = absurd (omega arith)
 same_lane (y ∷ lanes) zero l x h is other = other ∙ sym is
 same_lane (y ∷ lanes) (suc n) l x h is other = same_lane lanes n l x (omega arith) is other
 
-pub released_machine : (lanes lanes' : List Seen) (n : ℕ) (x after : Seen) (space : Space) (instance : List ℕ) (memory : List (List ℕ)) (epochs epochs' : Epochs) (released released' : List (List ℕ)) (d : Option (ℕ × ℕ)) (s t : ℕ)
-    → n < length lanes → x ≡ get_or lanes n x → member_of after ≡ freed (member_of x) → x.state ≡ Waiting space instance → members_of lanes' ≡ map freed (members_of (slice_set lanes n after))
+pub released_machine : (lanes lanes' : List Seen) (n : ℕ) (space : Space) (instance : List ℕ) (memory : List (List ℕ)) (epochs epochs' : Epochs) (released released' : List (List ℕ)) (d : Option (ℕ × ℕ)) (s t : ℕ)
+    → state_at lanes n ≡ Waiting space instance → members_of lanes' ≡ map freed (members_of lanes)
     → epochs' ≡ raised space epochs → released' ≡ released ++ instance ∷ [] → machine_from lanes' memory epochs' released' d s t ≡ release_by (state_at lanes n) (machine_from lanes memory epochs released d s t)
-released_machine lanes lanes' n x after space instance memory epochs epochs' released released' d s t h is e waits all ep re =
-    ap (λ ms. record { members = ms; memory = memory; epochs = epochs'; released = released'; diverged = d; steps = s; stutters = t }) (all ∙ freed_twice lanes n x after is e)
+released_machine lanes lanes' n space instance memory epochs epochs' released released' d s t waits all ep re =
+    ap (λ ms. record { members = ms; memory = memory; epochs = epochs'; released = released'; diverged = d; steps = s; stutters = t }) all
     ∙ (ap (λ y. record { members = map freed (members_of lanes); memory = memory; epochs = y; released = released'; diverged = d; steps = s; stutters = t }) ep
     ∙ (ap (λ y. record { members = map freed (members_of lanes); memory = memory; epochs = raised space epochs; released = y; diverged = d; steps = s; stutters = t }) re
-    ∙ sym (ap (λ st. release_by st (machine_from lanes memory epochs released d s t)) (state_is lanes n x h is ∙ waits))))
+    ∙ sym (ap (λ st. release_by st (machine_from lanes memory epochs released d s t)) waits)))
 
 pub calm_is : {A : Type 0} (d : Option A) → is_some d ≡ false → is_none d ≡ true
 calm_is None e = refl
@@ -223,14 +253,10 @@ calm_is (Some x) e = cc
 pub end_is : (d : Option (ℕ × ℕ)) (members : List Member) (all : Bool) → d ≡ None → all ≡ all_ended members → end_by None all ≡ end_by d (all_ended members)
 end_is d members all e is = ap (λ x. end_by x all) (sym e) ∙ ap (λ b. end_by d b) is
 
-waits_somewhere : (state : LaneState) → is_waiting state ≡ true → ((space : Space) (instance : List ℕ) → ¬ (state ≡ Waiting space instance)) → ⊥
+pub waits_somewhere : (state : LaneState) → is_waiting state ≡ true → ((space : Space) (instance : List ℕ) → ¬ (state ≡ Waiting space instance)) → ⊥
 waits_somewhere Able e h = cc
 waits_somewhere (Waiting space instance) e h = h space instance refl
 waits_somewhere Ended e h = cc
-
-pub never_default : (lanes : List Seen) (n : ℕ) (x : Seen) (state : LaneState) → n < length lanes → x ≡ get_or lanes n x → is_waiting (state_at lanes n) ≡ true → state ≡ x.state
-    → ((space : Space) (instance : List ℕ) → ¬ (state ≡ Waiting space instance)) → ⊥
-never_default lanes n x state h is waits same none = waits_somewhere state (ap is_waiting same ∙ (ap is_waiting (sym (state_is lanes n x h is)) ∙ waits)) none
 
 -- ---- the able lanes
 

@@ -193,6 +193,14 @@ waits_at Able = None
 waits_at (Waiting space instance) = Some instance
 waits_at Ended = None
 
+abbrev pub waits_by : Option Member → Option (List ℕ)
+waits_by None = None
+waits_by (Some member) = waits_at member.state
+
+-- where the lane with a number waits, if there is such a lane and it waits
+abbrev pub waiting_at : Machine → ℕ → Option (List ℕ)
+waiting_at m number = waits_by (slice_get m.members number)
+
 abbrev pub end_by : Option (ℕ × ℕ) → Bool → RunEnd
 end_by None true = run_end.Ended
 end_by None false = run_end.Running

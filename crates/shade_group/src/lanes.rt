@@ -1,6 +1,6 @@
 // What is asked of all lanes, and done to all.
 
-ghost use Rattle.std.specs.Prelude.{◌≡◌, ◌<◌, ◌^◌, length, map, slice_get, Some};
+ghost use Rattle.std.specs.Prelude.{◌≡◌, ◌<◌, ◌^◌, length, map, slice_get, true, Some};
 ghost use Rattle.std.specs.Cmp.Lexicographic.{pointwise};
 ghost use Rattle.shade_group.specs.Group.{able_from, raised as raised_of, least_unlike as least_unlike_of, same_instance as same_instance_of, unlike as unlike_of};
 ghost use Rattle.std.specs.List.{list_all};
@@ -133,14 +133,22 @@ pub(crate) fn all_ended(lanes: &[Lane]) -> bool
     lanes.iter().all(|lane| is_ended(lane.state()))
 }
 
-/// Lets every lane step again.
-pub(crate) fn free(lanes: &mut Vec<Lane>)
+/// Lets every lane step again, where all wait, and gives the state in which the lane with this number waited.
+pub(crate) fn free(lanes: &mut Vec<Lane>, number: u32) -> LaneState
+    requires within { number < length lanes.old.items }
+    requires wait { list_all (λ lane. is_waiting_of lane.state) lanes.old.items ≡ true }
+    ensures state { result ≡ state_at lanes.old.items number }
     ensures members { members_of lanes.new.items ≡ map freed (members_of lanes.old.items) }
     ensures len { length lanes.new.items ≡ length lanes.old.items }
 {
-    for number in 0..lanes.len() {
-        lanes[number].resume();
+    let mut waited = LaneState::Able;
+    for index in 0..lanes.len() {
+        let state = lanes[index].resume();
+        if index == number as usize {
+            waited = state;
+        }
     }
+    waited
 }
 
 /// A barrier of a space was passed once more.

@@ -7,7 +7,11 @@ mod begin;
 mod event;
 mod group;
 mod lanes;
+mod runnable;
 mod steps;
+#[cfg(test)]
+mod tests;
 
 pub use event::{Epochs, GroupEvent, RunEnd};
 pub use group::Group;
+pub use runnable::is_runnable;

@@ -2,7 +2,7 @@
 
 ghost use Rattle.std.specs.Prelude.{◌≡◌, ℕ, ◌<◌, ◌≤◌, ◌^◌, length, take, slice_get, true, false, Some, None, IfOk, OnOk, OnErr, IfSome, vec_len, vec_capacity};
 ghost use Rattle.std.specs.List.{list_all};
-ghost use Rattle.shade_group.specs.Group.{event as event_of, ordered as ordered_of, parted, parted_event, released_event, run, run_end_of, settled, settled_event, step as step_of, release_by, stuttered, least_unlike, waits_at, able_lanes, all_wait as all_wait_of, all_ended as all_ended_of};
+ghost use Rattle.shade_group.specs.Group.{event as event_of, ordered as ordered_of, parted, parted_event, released_event, run, run_end_of, settled, settled_event, step as step_of, release_by, stuttered, least_unlike, waiting_at, able_lanes, all_wait as all_wait_of, all_ended as all_ended_of};
 ghost use Rattle.std.specs.Option.{option_copied};
 ghost use Rattle.shade_group.specs.Seen.{machine_of, state_at};
 ghost use Rattle.shade_lane.specs.Members.{is_able as is_able_of, is_waiting as is_waiting_of};
@@ -110,13 +110,19 @@ impl<'m> Group<'m> {
 
     /// The words of the instance at which a lane waits, where it waits. Takes no memory.
     pub fn waiting(&self, lane: u32) -> Option<&[u32]>
-        requires { lane < length self.now.lanes.items }
-        ensures { option_copied result ≡ waits_at (state_at self.now.lanes.items lane) }
+        ensures { option_copied result ≡ waiting_at (machine_of self.now) lane }
     {
-        match self.lanes[lane as usize].state() {
+        match self.lanes.get(lane as usize)?.state() {
             LaneState::Waiting(_, instance) => Some(instance.as_slice()),
             LaneState::Able | LaneState::Ended => None,
         }
+    }
+
+    /// How many lanes there are. Takes no memory.
+    pub fn lanes(&self) -> u32
+        ensures { result ≡ length (machine_of self.now).members }
+    {
+        self.lanes.len() as u32
     }
 
     /// Counts a step that changes nothing else.
@@ -215,14 +221,13 @@ impl<'m> Group<'m> {
     fn release(&mut self, number: u32) -> GroupEvent
         requires room { vec_len self.old.released < vec_capacity self.old.released }
         requires within { number < length self.old.lanes.items }
-        requires waits { is_waiting_of (state_at self.old.lanes.items number) ≡ true }
+        requires wait { all_wait_of (machine_of self.old).members ≡ true }
         ensures machine { machine_of self.new ≡ release_by (state_at self.old.lanes.items number) (machine_of self.old) }
         ensures event { result ≡ released_event (length self.old.released.items) }
         ensures lanes { length self.new.lanes.items ≡ length self.old.lanes.items }
     {
         let count = self.released.len() as u64;
-        if let LaneState::Waiting(space, instance) = self.lanes[number as usize].resume() {
-            free(&mut self.lanes);
+        if let LaneState::Waiting(space, instance) = free(&mut self.lanes, number) {
             self.epochs = raised(self.epochs, space);
             let _ = self.released.push(instance);
         }

@@ -7,6 +7,7 @@ ghost use Rattle.shade_job.specs.declared.JobFault.TheVariants.{NoMemory};
 ghost use Rattle.std.specs.Fmt.{decimal};
 ghost use Rattle.shade_job.specs.Steps.{States, line, lines};
 ghost use Rattle.shade_job.specs.Faults.{Faults};
+ghost use Rattle.shade_job.specs.Laws.{OneJob};
 
 use shade_first::decimal_value;
 use std::alloc::{AllocError, Global};
@@ -105,6 +106,11 @@ pub fn read_steps(alloc: Global, bytes: &[u8], lanes: u32) -> Result<Vec<u32>, J
     }
     Ok(steps)
 }
+
+/// Some bytes state one job at most.
+pub fn one_job()
+    ensures { OneJob }
+{}
 
 #[cfg(test)]
 mod tests {

@@ -1,16 +1,18 @@
 -- A lane by itself: what it has left, where it stands, what it holds, and its step.
--- Kinds of statement other than Set, If, Barrier and Return have no case yet: a lane passes over them. Operations other than Less have
--- none either, and Less is that of two u32 values. `runs` says which lists of statements have cases alone.
-use Rattle.std.specs.Prelude.{ℕ, ◌+◌, ◌*◌, Bool, true, false, ◌&&◌, not, List, [], ◌∷◌, map, Option, Some, None, if◌then◌else◌, ◌==◌, pos, slice_get, slice_index, int_lt}
+-- Kinds of statement other than Set, If, Barrier and Return have no case yet: a lane passes over them. `runs` says which lists of
+-- statements have cases alone.
+use Rattle.std.specs.Prelude.{ℕ, ◌+◌, ◌*◌, Bool, true, false, ◌&&◌, not, List, [], ◌∷◌, map, Option, Some, None, if◌then◌else◌, ◌==◌, pos, slice_get, slice_index, is_some}
+use Rattle.std.specs.Option.{option_map, option_to_list}
+use Rattle.std.specs.List.{list_all, flat_map}
 use Rattle.std.specs.Ordering.{int_eq}
-use Rattle.shade_values.specs.declared.types.Scalar.{Scalar}
 use Rattle.shade_values.specs.declared.types.Scalar.TheVariants as scalar
 use Rattle.shade_values.specs.declared.value.Leaf.{Leaf}
 use Rattle.shade_values.specs.declared.value.Value.{Value, Value-F, out-Value}
 use Rattle.shade_values.specs.declared.value.Value.TheVariants.{One, Many}
 use Rattle.shade_values.specs.declared.value.Value.TheOpen as value
 use Rattle.shade_values.specs.declared.op.Op.{Op}
-use Rattle.shade_values.specs.declared.op.Op.TheVariants.{Less}
+use Rattle.shade_values.specs.declared.op.Op.TheVariants.{AtomicLoad, AtomicStore, AtomicAdd, AtomicSub, AtomicMax, AtomicMin, AtomicAnd, AtomicOr, AtomicXor, AtomicExchange, AtomicCompareExchangeWeak}
+use Rattle.shade_values.specs.Apply.{Apply}
 use Rattle.shade_core.specs.declared.module.BuiltinInput.{BuiltinInput}
 use Rattle.shade_core.specs.declared.module.BuiltinInput.TheVariants.{LocalId, LocalIndex, GlobalId, GroupId, GroupCount}
 use Rattle.shade_core.specs.declared.module.CoreParam.{CoreParam}
@@ -164,29 +166,13 @@ abbrev pub test_value : List (Option Value) → (ℕ → Option Value) → Optio
 test_value params values None = false
 test_value params values (Some operand) = is_true (operand_value params values operand)
 
-abbrev pub truth_number : Bool → ℕ
-truth_number false = 0
-truth_number true = 1
+-- the values, where each is one
+abbrev pub all_known : List (Option Value) → Option (List Value)
+all_known vs = if list_all is_some vs then Some (flat_map option_to_list vs) else None
 
-abbrev pub truth : Bool → Value
-truth b = One (record { scalar = scalar.Bool; number = pos (truth_number b) })
-
-abbrev pub less_by : Scalar → Scalar → Leaf → Leaf → Option Value
-less_by scalar.U32 scalar.U32 a b = Some (truth (int_lt a.number b.number))
-less_by _ _ a b = None
-
-abbrev pub less : Option Leaf → Option Leaf → Option Value
-less (Some a) (Some b) = less_by a.scalar b.scalar a b
-less _ _ = None
-
-abbrev pub two_leaves : List (Option Value) → Option Value
-two_leaves (a ∷ b ∷ []) = less (leaf_of a) (leaf_of b)
-two_leaves _ = None
-
--- What an operation gives. Less of two values of u32 is known; further operations are further cases.
+-- What an operation gives, where each operand stands for something.
 abbrev pub applied : Op → List (Option Value) → Option Value
-applied Less args = two_leaves args
-applied _ args = None
+applied op args = option_map (Apply op) (all_known args)
 
 abbrev pub put : (ℕ → Option Value) → ℕ → Option Value → ℕ → Option Value
 put values n v m = if m == n then v else values m
@@ -216,13 +202,23 @@ step params lane = record { place = next (go (test_value params lane.values (tes
 
 -- ---- the statements that have a case
 
--- an operation with a case, on so many operands
-abbrev pub is_known : Op → List Operand → Bool
-is_known Less (a ∷ b ∷ []) = true
-is_known _ args = false
+-- the operations on an atomic in memory, which are none on values alone. (WGSL, "Atomic Built-in Functions".)
+abbrev pub is_atomic : Op → Bool
+is_atomic AtomicLoad = true
+is_atomic AtomicStore = true
+is_atomic AtomicAdd = true
+is_atomic AtomicSub = true
+is_atomic AtomicMax = true
+is_atomic AtomicMin = true
+is_atomic AtomicAnd = true
+is_atomic AtomicOr = true
+is_atomic AtomicXor = true
+is_atomic AtomicExchange = true
+is_atomic AtomicCompareExchangeWeak = true
+is_atomic _ = false
 
 abbrev pub act_runs : Plain → Bool
-act_runs (Set op args) = is_known op args
+act_runs (Set op args) = not (is_atomic op)
 act_runs (Barrier space severity) = true
 act_runs _ = false
 
@@ -230,7 +226,7 @@ abbrev pub jump_runs : Jump → Bool
 jump_runs (Return value) = true
 jump_runs _ = false
 
--- a list that has Set, If, Barrier and Return alone, and known operations
+-- a list that has Set, If, Barrier and Return alone, and no atomic operation
 abbrev pub runs : Code → Bool
 runs done = true
 runs (plain n act rest) = act_runs act && runs rest

@@ -3,7 +3,7 @@
 ghost use Rattle.std.specs.Prelude.{◌≡◌, ℕ, ◌<◌, ◌^◌, [], ◌∷◌, length, map, slice_get, true, Some, IfOk, OnOk, OnErr};
 ghost use Rattle.shade_core.specs.declared.module.CoreFunction.{CoreFunction as TheFunction};
 ghost use Rattle.shade_lane.specs.Lane.{applied as applied_of, global_part, is_true as is_true_of, operand_value as value_of, put};
-ghost use Rattle.shade_lane.specs.Members.{begin_member, freed, is_able, moved};
+ghost use Rattle.shade_lane.specs.Members.{begin_member, freed, is_able, is_waiting, moved};
 ghost use Rattle.shade_lane.specs.declared.state.LaneState.TheVariants.{Waiting as waiting};
 ghost use Rattle.shade_lane.specs.Seen.{event_by, below_of, finished, has_first, HasFirst, later_of, member_of, part_of, slot_value, taken, went};
 
@@ -109,8 +109,9 @@ impl<'m> Lane<'m> {
         &self.state
     }
 
-    /// Lets the lane step again, and gives the state that it was in. Takes no memory.
+    /// Lets a lane that waits step again, and gives the state that it was in. Takes no memory.
     pub fn resume(&mut self) -> LaneState
+        requires { is_waiting self.old.state ≡ true }
         ensures state { result ≡ self.old.state }
         ensures freed { member_of self.new ≡ freed (member_of self.old) }
     {
@@ -140,8 +141,15 @@ impl<'m> Lane<'m> {
         ensures ok { OnOk result (member_of self.new ≡ went (later_of self.old.lists ∷ below_of self.old.lists) (put (slot_value self.old.slots) number (applied_of op (map (value_of self.old.params (slot_value self.old.slots)) args.now))) (member_of self.old)) }
         ensures err { OnErr result (member_of self.new ≡ member_of self.old) }
     {
+        let alloc = *self.slots.allocator();
+        let value = applied(
+            alloc,
+            op,
+            args,
+            self.params.as_slice(),
+            self.slots.as_slice(),
+        )?;
         grow(&mut self.slots, number)?;
-        let value = applied(op, args, self.params.as_slice(), self.slots.as_slice());
         place(&mut self.slots, number, value);
         self.rest.pass();
         Ok(())

@@ -4,11 +4,15 @@
 #![tactic(auto)]
 
 mod builtins;
+mod cases;
 mod lane;
 mod rest;
 mod state;
+#[cfg(test)]
+mod tests;
 mod values;
 
 pub use builtins::Builtins;
+pub use cases::{ends_in_return, runs};
 pub use lane::{Lane, LaneEvent};
 pub use state::{Instance, LaneState};

@@ -1,13 +1,13 @@
 // What operands and operations give.
 
 ghost use Rattle.std.specs.Prelude.{◌≡◌, ℕ, ◌<◌, ◌^◌, ◌*◌, map, slice_get, IfOk};
-ghost use Rattle.std.specs.Option.{option_copied};
-ghost use Rattle.shade_lane.specs.Lane.{global_part, input_value as input_value_of, is_true as is_true_of, leaf_of as leaf_value, less as less_of, operand_value as value_of, param_value as param_value_of, applied as applied_of, three_values as three_of, truth as truth_of, u32_value as u32_of};
+ghost use Rattle.std.specs.Option.{option_copied, option_map};
+ghost use Rattle.shade_lane.specs.Lane.{global_part, input_value as input_value_of, is_true as is_true_of, leaf_of as leaf_value, operand_value as value_of, param_value as param_value_of, all_known as all_known_of, applied as applied_of, three_values as three_of, u32_value as u32_of};
 ghost use Rattle.shade_lane.specs.Seen.{slot_value};
 
 use crate::builtins::Builtins;
 use shade_core::{BuiltinInput, CoreParam, Operand};
-use shade_values::{Leaf, Op, Scalar, Value};
+use shade_values::{Leaf, Op, Scalar, Value, apply, copy_value};
 use sqlite_items::Items;
 use std::alloc::{AllocError, Global};
 
@@ -18,16 +18,6 @@ fn u32_value(number: u32) -> Value
     Value::One(Leaf {
         scalar: Scalar::U32,
         number: i64::from(number),
-    })
-}
-
-/// A value of `bool`.
-fn truth(holds: bool) -> Value
-    ensures { result ≡ truth_of holds }
-{
-    Value::One(Leaf {
-        scalar: Scalar::Bool,
-        number: i64::from(holds),
     })
 }
 
@@ -140,33 +130,37 @@ pub(crate) fn is_true(value: Option<&Value>) -> bool
     }
 }
 
-/// Whether one value of `u32` is less than another.
-fn less(left: Option<Leaf>, right: Option<Leaf>) -> Option<Value>
-    ensures { result ≡ less_of left right }
-{
-    match (left, right) {
-        (Some(a), Some(b)) => match (a.scalar, b.scalar) {
-            (Scalar::U32, Scalar::U32) => Some(truth(a.number < b.number)),
-            _ => None,
-        },
-        _ => None,
-    }
-}
-
-/// What an operation gives.
+/// What an operation gives, where each operand stands for something.
 pub(crate) fn applied(
+    alloc: Global,
     op: Op,
     args: &[Operand],
     params: &[Option<Value>],
     slots: &[Option<Value>],
-) -> Option<Value>
-    ensures { result ≡ applied_of op (map (value_of params.now (slot_value slots.now)) args.now) }
+) -> Result<Option<Value>, AllocError>
+    ensures { IfOk result (λ v. v ≡ applied_of op (map (value_of params.now (slot_value slots.now)) args.now)) }
 {
-    match (op, args) {
-        (Op::Less, [left, right]) => less(
-            leaf_of(operand_value(params, slots, left)),
-            leaf_of(operand_value(params, slots, right)),
-        ),
-        _ => None,
+    match all_known(alloc, args, params, slots)? {
+        Some(values) => Ok(Some(apply(alloc, op, values.as_slice())?)),
+        None => Ok(None),
     }
+}
+
+/// Copies of what operands stand for, where each stands for something.
+fn all_known(
+    alloc: Global,
+    args: &[Operand],
+    params: &[Option<Value>],
+    slots: &[Option<Value>],
+) -> Result<Option<Vec<Value>>, AllocError>
+    ensures { IfOk result (λ vs. option_map (λ v. v.items) vs ≡ all_known_of (map (value_of params.now (slot_value slots.now)) args.now)) }
+{
+    let mut values = Vec::with_capacity(alloc, args.len())?;
+    for operand in args {
+        match operand_value(params, slots, operand) {
+            Some(value) => values.push(copy_value(alloc, value)?)?,
+            None => return Ok(None),
+        }
+    }
+    Ok(Some(values))
 }

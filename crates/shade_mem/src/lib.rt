@@ -3,6 +3,8 @@
 
 mod inputs;
 mod memory;
+#[cfg(test)]
+mod tests;
 
 pub use inputs::{Inputs, RootWords, Words};
 pub use memory::Memory;

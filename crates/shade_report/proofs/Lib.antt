@@ -1,1 +1,2 @@
+mod InstanceLaws
 mod ReportLaws

@@ -1,3 +1,5 @@
 pub mod Sources
 pub mod Labels
 pub mod CheckReport
+pub mod RunReport
+pub mod Frames

@@ -56,7 +56,7 @@ fn first_text(alloc: Global, violations: &[Violation]) -> Result<String, AllocEr
 }
 
 /// The name of the function with a number, and nothing where there is none.
-fn name_at(functions: &[CoreFunction], number: u32) -> &[u8]
+pub(crate) fn name_at(functions: &[CoreFunction], number: u32) -> &[u8]
     ensures { result.now ≡ function_name functions.now number }
 {
     match functions.get(number as usize) {

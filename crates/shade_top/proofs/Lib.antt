@@ -1,2 +1,4 @@
 mod OneAnswer
+mod ReadLaws
+mod RunLaws
 mod ServeLaws

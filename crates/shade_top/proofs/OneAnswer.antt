@@ -1,5 +1,5 @@
 -- The answer is one.
-use Rattle.std.proofs.Common.{◌≡◌, refl, sym, ◌∙◌, ap, ap₂, subst, ℕ, ◌⊎◌, inl, inr, List, Option, None, Some}
+use Rattle.std.proofs.Common.{◌≡◌, refl, sym, ◌∙◌, ap, ap₂, subst, ℕ, zero, suc, ◌+◌, ◌<◌, ◌≤◌, ◌^◌, ◌⊎◌, inl, inr, List, [], ◌∷◌, length, slice_get, Option, None, Some, arith}
 use Rattle.shade_core.specs.declared.module.CoreModule.{CoreModule}
 use Rattle.shade_core.specs.declared.module.CoreFunction.{CoreFunction}
 use Rattle.shade_verdict.specs.declared.violation.Violation.{Violation}
@@ -7,8 +7,29 @@ use Rattle.shade_verdict.specs.Violations.{AreViolations}
 use Rattle.shade_verdict.specs.Laws.{OneVerdict}
 use Rattle.shade_first.specs.FirstForm.{StandsFor, LeavesAt}
 use Rattle.shade_first.specs.Laws.{OneModule, OnePlace, NeverBoth}
-use Rattle.shade_top.specs.Answer.{Answer, IsAnswer, IsChecked, leaves, judged, no_form, failed, checked, file_of, bad_words, fault_read, refused_notyet, verdict}
+use Rattle.shade_group.specs.Group.{members_from, sized_members, entry_members, sized_runs, entry_runs, lane_count}
+use Rattle.shade_sound.specs.Laws.{FirstFormRuns}
+use Rattle.shade_job.specs.Steps.{States}
+use Rattle.shade_job.specs.Laws.{OneJob}
+use Rattle.shade_top.specs.Answer.{Answer, IsAnswer, no_form, answered, IsAnswerTo, check_unread, checked, run_unread, stopped, job_unread, run_, IsChecked, leaves, judged, IsRan, no_job, job, NoJob, Runs, bad_words, fault_read, refused_notyet, refused_job, verdict, inputs, lanes_of, ran, outcome}
+use Rattle.shade_top.specs.Request.{Request, Check, Run, request_of}
 use Rattle.shade_top.specs.Laws.{OneAnswer}
+
+-- ---- the lanes of a run are few
+
+count_members : (function : CoreFunction) (size : List ℕ) (n count : ℕ) → length (members_from inputs function size n count) ≡ count
+count_members function size n zero = refl
+count_members function size n (suc count) = ap suc (count_members function size (n + 1) count)
+
+few_sized : (function : CoreFunction) (size : Option (List ℕ)) → sized_runs function size → length (sized_members inputs function size) ≤ 256
+few_sized function None r = absurd r
+few_sized function (Some size) r = let is : length (sized_members inputs function (Some size)) ≡ lane_count size = count_members function size 0 (lane_count size) in omega (arith, r.1)
+
+few_entry : (function : Option CoreFunction) → entry_runs function → length (entry_members inputs function) ≤ 256
+few_entry None r = absurd r
+few_entry (Some function) r = few_sized function function.entry r
+
+-- ---- cases
 
 abbrev CheckedCases : List ℕ → Answer → Type 0
 CheckedCases bytes a =
@@ -19,26 +40,48 @@ checked_cases : {bytes : List ℕ} {a : Answer} → IsChecked bytes a → Checke
 checked_cases (leaves {offset = offset} at) = inl (offset, at, refl)
 checked_cases (judged {checked = m} {violations = vs} stands are) = inr (m, vs, stands, are, refl)
 
-abbrev AnswerCases : List (List ℕ) → Option (List ℕ) → Answer → Type 0
-AnswerCases words None a = ((file_of words ≡ None) × (a ≡ bad_words)) ⊎ ((name : List ℕ) × (file_of words ≡ Some name) × (a ≡ fault_read name))
-AnswerCases words (Some bytes) a = ((file_of words ≡ None) × (a ≡ bad_words)) ⊎ ((name : List ℕ) × (file_of words ≡ Some name) × IsChecked bytes a)
+abbrev RanCases : CoreModule → List ℕ → Answer → Type 0
+RanCases shader bytes a = (NoJob shader bytes × (a ≡ refused_job)) ⊎ ((steps : List ℕ) × States (lanes_of shader) bytes steps × (a ≡ outcome shader (ran shader steps)))
 
-bad_cases : (words : List (List ℕ)) (read : Option (List ℕ)) → file_of words ≡ None → AnswerCases words read bad_words
-bad_cases words None is = inl (is, refl)
-bad_cases words (Some bytes) is = inl (is, refl)
+ran_cases : {shader : CoreModule} {bytes : List ℕ} {a : Answer} → IsRan shader bytes a → RanCases shader bytes a
+ran_cases (no_job none) = inl (none, refl)
+ran_cases (job {steps = steps} states) = inr (steps, states, refl)
 
-answer_cases : {words : List (List ℕ)} {read : Option (List ℕ)} {a : Answer} → IsAnswer words read a → AnswerCases words read a
-answer_cases {words = words} {read = read} (no_form is) = bad_cases words read is
-answer_cases (failed {name = name} is) = inr (name, is, refl)
-answer_cases (checked {name = name} is c) = inr (name, is, c)
+abbrev RunCases : List ℕ → List ℕ → List (Option (List ℕ)) → List ℕ → Answer → Type 0
+RunCases file name [] bytes a = CheckedCases bytes a
+RunCases file name (None ∷ reads) bytes a = (shader : CoreModule) × Runs bytes shader × (a ≡ fault_read name)
+RunCases file name (Some steps ∷ reads) bytes a = (shader : CoreModule) × Runs bytes shader × RanCases shader steps a
 
-none_some : (file : Option (List ℕ)) (name : List ℕ) → file ≡ None → file ≡ Some name → ⊥
-none_some file name none some = let clash : None ≡ Some name = sym none ∙ some in cc
+abbrev ToCases : Request → List (Option (List ℕ)) → Answer → Type 0
+ToCases (Check file) [] a = ⊥
+ToCases (Check file) (None ∷ reads) a = a ≡ fault_read file
+ToCases (Check file) (Some bytes ∷ reads) a = CheckedCases bytes a
+ToCases (Run file name) [] a = ⊥
+ToCases (Run file name) (None ∷ reads) a = a ≡ fault_read file
+ToCases (Run file name) (Some bytes ∷ reads) a = RunCases file name reads bytes a
 
-one_name : (file : Option (List ℕ)) (a b : List ℕ) → file ≡ Some a → file ≡ Some b → a ≡ b
-one_name file a b e f = let same : Some a ≡ Some b = sym e ∙ f in cc
+to_cases : {request : Request} {reads : List (Option (List ℕ))} {a : Answer} → IsAnswerTo request reads a → ToCases request reads a
+to_cases check_unread = refl
+to_cases (checked c) = checked_cases c
+to_cases run_unread = refl
+to_cases (stopped c not_zero) = checked_cases c
+to_cases (job_unread {shader = shader} runs) = (shader, runs, refl)
+to_cases (run_ {shader = shader} runs r) = (shader, runs, ran_cases r)
 
-module _ (modules : OneModule) (places : OnePlace) (both : NeverBoth) (verdicts : OneVerdict) where
+abbrev AnswerCases : List (List ℕ) → List (Option (List ℕ)) → Answer → Type 0
+AnswerCases words reads a = ((request_of words ≡ None) × (a ≡ bad_words)) ⊎ ((request : Request) × (request_of words ≡ Some request) × ToCases request reads a)
+
+answer_cases : {words : List (List ℕ)} {reads : List (Option (List ℕ))} {a : Answer} → IsAnswer words reads a → AnswerCases words reads a
+answer_cases (no_form is none) = inl (is, refl)
+answer_cases (answered {request = request} is t) = inr (request, is, to_cases t)
+
+none_some : (asked : Option Request) (request : Request) → asked ≡ None → asked ≡ Some request → ⊥
+none_some asked request none some = let clash : None ≡ Some request = sym none ∙ some in cc
+
+one_request : (asked : Option Request) (a b : Request) → asked ≡ Some a → asked ≡ Some b → a ≡ b
+one_request asked a b e f = let same : Some a ≡ Some b = sym e ∙ f in cc
+
+module _ (modules : OneModule) (places : OnePlace) (both : NeverBoth) (verdicts : OneVerdict) (jobs : OneJob) (runnable : FirstFormRuns) where
   one_verdict : (bytes : List ℕ) (m n : CoreModule) (vs ws : List Violation) → StandsFor bytes m → StandsFor bytes n → AreViolations m.functions vs → AreViolations n.functions ws → verdict m.functions vs ≡ verdict n.functions ws
   one_verdict bytes m n vs ws sm sn am an =
       let same : m ≡ n = modules bytes m n sm sn in
@@ -51,15 +94,38 @@ module _ (modules : OneModule) (places : OnePlace) (both : NeverBoth) (verdicts 
   checked_one bytes a b (inr x) (inl y) = absurd (both bytes x.0 y.0 x.2 y.1)
   checked_one bytes a b (inr x) (inr y) = x.4 ∙ (one_verdict bytes x.0 y.0 x.1 y.1 x.2 y.2 x.3 y.3 ∙ sym y.4)
 
-  cases_one : (words : List (List ℕ)) (read : Option (List ℕ)) (a b : Answer) → AnswerCases words read a → AnswerCases words read b → a ≡ b
-  cases_one words None a b (inl x) (inl y) = x.1 ∙ sym y.1
-  cases_one words None a b (inl x) (inr y) = absurd (none_some (file_of words) y.0 x.0 y.1)
-  cases_one words None a b (inr x) (inl y) = absurd (none_some (file_of words) x.0 y.0 x.1)
-  cases_one words None a b (inr x) (inr y) = x.2 ∙ (ap fault_read (one_name (file_of words) x.0 y.0 x.1 y.1) ∙ sym y.2)
-  cases_one words (Some bytes) a b (inl x) (inl y) = x.1 ∙ sym y.1
-  cases_one words (Some bytes) a b (inl x) (inr y) = absurd (none_some (file_of words) y.0 x.0 y.1)
-  cases_one words (Some bytes) a b (inr x) (inl y) = absurd (none_some (file_of words) x.0 y.0 x.1)
-  cases_one words (Some bytes) a b (inr x) (inr y) = checked_one bytes a b (checked_cases x.2) (checked_cases y.2)
+  few_lanes : (bytes : List ℕ) (shader : CoreModule) → StandsFor bytes shader → lanes_of shader < 2 ^ 32
+  few_lanes bytes shader stands = let few : lanes_of shader ≤ 256 = few_entry (slice_get shader.functions 0) (runnable bytes shader stands).body in omega arith
+
+  ran_one : (bytes : List ℕ) (shader : CoreModule) → StandsFor bytes shader → (steps : List ℕ) (a b : Answer) → RanCases shader steps a → RanCases shader steps b → a ≡ b
+  ran_one bytes shader stands steps a b (inl x) (inl y) = x.1 ∙ sym y.1
+  ran_one bytes shader stands steps a b (inl x) (inr y) = absurd (x.0 y.0 y.1)
+  ran_one bytes shader stands steps a b (inr x) (inl y) = absurd (y.0 x.0 x.1)
+  ran_one bytes shader stands steps a b (inr x) (inr y) =
+      x.2 ∙ (ap (λ l. outcome shader (ran shader l)) (jobs (lanes_of shader) steps x.0 y.0 (few_lanes bytes shader stands) x.1 y.1) ∙ sym y.2)
+
+  run_one : (file name bytes : List ℕ) (reads : List (Option (List ℕ))) (a b : Answer) → RunCases file name reads bytes a → RunCases file name reads bytes b → a ≡ b
+  run_one file name bytes [] a b x y = checked_one bytes a b x y
+  run_one file name bytes (None ∷ reads) a b x y = x.2 ∙ sym y.2
+  run_one file name bytes (Some steps ∷ reads) a b x y =
+      let same : y.0 ≡ x.0 = modules bytes y.0 x.0 y.1.stands x.1.stands in
+      ran_one bytes x.0 x.1.stands steps a b x.2 (subst (λ (s : CoreModule). RanCases s steps b) same y.2)
+
+  to_one : (request : Request) (reads : List (Option (List ℕ))) (a b : Answer) → ToCases request reads a → ToCases request reads b → a ≡ b
+  to_one (Check file) [] a b x y = absurd x
+  to_one (Check file) (None ∷ reads) a b x y = x ∙ sym y
+  to_one (Check file) (Some bytes ∷ reads) a b x y = checked_one bytes a b x y
+  to_one (Run file name) [] a b x y = absurd x
+  to_one (Run file name) (None ∷ reads) a b x y = x ∙ sym y
+  to_one (Run file name) (Some bytes ∷ reads) a b x y = run_one file name bytes reads a b x y
+
+  cases_one : (words : List (List ℕ)) (reads : List (Option (List ℕ))) (a b : Answer) → AnswerCases words reads a → AnswerCases words reads b → a ≡ b
+  cases_one words reads a b (inl x) (inl y) = x.1 ∙ sym y.1
+  cases_one words reads a b (inl x) (inr y) = absurd (none_some (request_of words) y.0 x.0 y.1)
+  cases_one words reads a b (inr x) (inl y) = absurd (none_some (request_of words) x.0 y.0 x.1)
+  cases_one words reads a b (inr x) (inr y) =
+      let same : y.0 ≡ x.0 = one_request (request_of words) y.0 x.0 y.1 x.1 in
+      to_one x.0 reads a b x.2 (subst (λ (q : Request). ToCases q reads b) same y.2)
 
   pub one_answer : OneAnswer
-  one_answer words read a b x y = cases_one words read a b (answer_cases x) (answer_cases y)
+  one_answer words reads a b x y = cases_one words reads a b (answer_cases x) (answer_cases y)

@@ -1,6 +1,5 @@
 -- What the program answers to its words: a status and a text.
-use Rattle.std.specs.Prelude.{◌≡◌, ℕ, ◌==◌, List, [], ◌∷◌, ◌++◌, if◌then◌else◌, Option, None, Some, codes}
-use Rattle.std.specs.Str.{bytes_eq}
+use Rattle.std.specs.Prelude.{◌≡◌, ◌≢◌, ℕ, ◌==◌, List, [], ◌∷◌, ◌++◌, length, if◌then◌else◌, Option, None, Some, codes}
 use Rattle.std.specs.Fmt.{decimal}
 use Rattle.shade_base.specs.declared.severity.Severity.TheVariants.{Error}
 use Rattle.shade_core.specs.declared.module.CoreModule.{CoreModule}
@@ -8,26 +7,26 @@ use Rattle.shade_core.specs.declared.module.CoreFunction.{CoreFunction}
 use Rattle.shade_verdict.specs.declared.violation.Violation.{Violation}
 use Rattle.shade_verdict.specs.Violations.{AreViolations}
 use Rattle.shade_report.specs.CheckReport.{count_of, check_report}
+use Rattle.shade_report.specs.RunReport.{run_report}
 use Rattle.shade_first.specs.FirstForm.{StandsFor, LeavesAt}
+use Rattle.shade_mem.specs.declared.inputs.Inputs.{Inputs}
+use Rattle.shade_group.specs.declared.event.RunEnd.{RunEnd}
+use Rattle.shade_group.specs.declared.event.RunEnd.TheVariants as run_end
+use Rattle.shade_group.specs.Group.{Machine, begin, run, run_end_of}
+use Rattle.shade_job.specs.Steps.{States}
+use Rattle.shade_top.specs.Request.{Request, Check, Run, request_of}
 
 pub record Answer : Type 0 where
   pub status : ℕ
   pub text : List ℕ
-
--- the greatest number of bytes of a text of the first form
-abbrev pub limit : ℕ
-limit = 4096
-
--- the file that the words name, where they fit the form: `check FILE`
-abbrev pub file_of : List (List ℕ) → Option (List ℕ)
-file_of (verb ∷ name ∷ []) = if bytes_eq verb (codes "check") then Some name else None
-file_of _ = None
 
 abbrev pub bad_words : Answer
 bad_words = record { status = 3; text = codes "bad words\n" }
 
 abbrev pub fault_read : List ℕ → Answer
 fault_read name = record { status = 5; text = (codes "fault read " ++ name) ++ codes "\n" }
+
+-- ---- checks
 
 abbrev pub refused_notyet : ℕ → Answer
 refused_notyet offset = record { status = 2; text = (codes "refused notyet " ++ decimal offset) ++ codes "\n" }
@@ -44,8 +43,61 @@ pub data IsChecked (bytes : List ℕ) : Answer → Type 0 where
   leaves : {offset : ℕ} → LeavesAt bytes offset → IsChecked bytes (refused_notyet offset)
   judged : {checked : CoreModule} {violations : List Violation} → StandsFor bytes checked → AreViolations checked.functions violations → IsChecked bytes (verdict checked.functions violations)
 
--- The answer to the words, by what the one read gave: the first bytes of the file, or nothing where it failed.
-pub data IsAnswer (words : List (List ℕ)) : Option (List ℕ) → Answer → Type 0 where
-  no_form : {read : Option (List ℕ)} → file_of words ≡ None → IsAnswer words read bad_words
-  failed : {name : List ℕ} → file_of words ≡ Some name → IsAnswer words None (fault_read name)
-  checked : {name bytes : List ℕ} {answer : Answer} → file_of words ≡ Some name → IsChecked bytes answer → IsAnswer words (Some bytes) answer
+-- ---- runs
+
+-- A text that is run: it stands for a module none of whose violations is an error.
+pub record Runs (bytes : List ℕ) (shader : CoreModule) : Type 0 where
+  pub stands : StandsFor bytes shader
+  pub violations : List Violation
+  pub are : AreViolations shader.functions violations
+  pub no_errors : count_of Error violations ≡ 0
+
+-- what a run is handed: the first function is its entry, there is one workgroup, and there are no buffers
+abbrev pub inputs : Inputs
+inputs = record { entry = 0; groups = 1 ∷ 1 ∷ 1 ∷ []; group = 0 ∷ 0 ∷ 0 ∷ []; words = [] }
+
+-- the number of lanes of a run
+abbrev pub lanes_of : CoreModule → ℕ
+lanes_of shader = length (begin shader inputs).members
+
+-- the machine after a list of lane steps
+abbrev pub ran : CoreModule → List ℕ → Machine
+ran shader steps = run (begin shader inputs) steps
+
+abbrev pub run_status : RunEnd → ℕ
+run_status run_end.Ended = 0
+run_status (run_end.Diverged one other) = 8
+run_status run_end.Running = 9
+
+-- the report of a run, with 0 where every lane ended, 8 where it diverged, and 9 where it still runs
+abbrev pub outcome : CoreModule → Machine → Answer
+outcome shader m = record { status = run_status (run_end_of m); text = run_report shader.functions m }
+
+abbrev pub refused_job : Answer
+refused_job = record { status = 4; text = codes "refused job / J1\n" }
+
+-- the bytes state no list of steps
+abbrev pub NoJob : CoreModule → List ℕ → Type 0
+NoJob shader bytes = (steps : List ℕ) → States (lanes_of shader) bytes steps → ⊥
+
+-- The answer to a job: the outcome of the run that it states, or that it states none.
+pub data IsRan (shader : CoreModule) (bytes : List ℕ) : Answer → Type 0 where
+  no_job : NoJob shader bytes → IsRan shader bytes refused_job
+  job : {steps : List ℕ} → States (lanes_of shader) bytes steps → IsRan shader bytes (outcome shader (ran shader steps))
+
+-- ---- requests
+
+-- The answer to a request, by what its reads gave, in order: the first bytes of a file, or nothing where the read failed. A job is read
+-- only where a check of the shader gives 0.
+pub data IsAnswerTo : Request → List (Option (List ℕ)) → Answer → Type 0 where
+  check_unread : {file : List ℕ} → IsAnswerTo (Check file) (None ∷ []) (fault_read file)
+  checked : {file bytes : List ℕ} {answer : Answer} → IsChecked bytes answer → IsAnswerTo (Check file) (Some bytes ∷ []) answer
+  run_unread : {file job : List ℕ} → IsAnswerTo (Run file job) (None ∷ []) (fault_read file)
+  stopped : {file job bytes : List ℕ} {answer : Answer} → IsChecked bytes answer → answer.status ≢ 0 → IsAnswerTo (Run file job) (Some bytes ∷ []) answer
+  job_unread : {file job bytes : List ℕ} {shader : CoreModule} → Runs bytes shader → IsAnswerTo (Run file job) (Some bytes ∷ None ∷ []) (fault_read job)
+  run_ : {file job bytes steps : List ℕ} {shader : CoreModule} {answer : Answer} → Runs bytes shader → IsRan shader steps answer → IsAnswerTo (Run file job) (Some bytes ∷ Some steps ∷ []) answer
+
+-- The answer to the words, by what the reads of the files that they name gave.
+pub data IsAnswer (words : List (List ℕ)) (reads : List (Option (List ℕ))) : Answer → Type 0 where
+  no_form : request_of words ≡ None → reads ≡ [] → IsAnswer words reads bad_words
+  answered : {request : Request} {answer : Answer} → request_of words ≡ Some request → IsAnswerTo request reads answer → IsAnswer words reads answer

@@ -4,4 +4,4 @@ use Rattle.shade_top.specs.Answer.{Answer, IsAnswer}
 
 -- The answer is a function of the words and of what was read.
 abbrev pub OneAnswer : Type 0
-OneAnswer = (words : List (List ℕ)) (read : Option (List ℕ)) (one other : Answer) → IsAnswer words read one → IsAnswer words read other → one ≡ other
+OneAnswer = (words : List (List ℕ)) (reads : List (Option (List ℕ))) (one other : Answer) → IsAnswer words reads one → IsAnswer words reads other → one ≡ other

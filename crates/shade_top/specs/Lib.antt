@@ -1,4 +1,6 @@
 pub mod Answer
+pub mod Causes
 pub mod Laws
 pub mod Report
+pub mod Request
 pub mod Serves

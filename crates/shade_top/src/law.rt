@@ -2,6 +2,8 @@
 ghost use Rattle.shade_top.specs.Laws.{OneAnswer};
 
 use shade_first::{never_both, one_module, one_place};
+use shade_job::one_job;
+use shade_sound::first_form_runs;
 use shade_verdict::violations_are_one_list;
 
 /// The status and the text of the answer are functions of the words and of what was read.
@@ -12,4 +14,6 @@ pub fn answers_are_one()
     one_place();
     never_both();
     violations_are_one_list();
+    one_job();
+    first_form_runs();
 }

@@ -1,10 +1,13 @@
 //! The top call: all that the program does with its words.
 //!
-//! What it answers stands in `specs/Answer.antt`; how a call reads and writes, in `specs/Serves.antt`.
+//! What the words ask for stands in `specs/Request.antt`, what it answers in `specs/Answer.antt`, and how a call reads and
+//! writes in `specs/Serves.antt`.
 #![tactic(auto)]
 
 mod law;
 mod report;
+mod request;
+mod run;
 mod top_call;
 
 pub use law::answers_are_one;

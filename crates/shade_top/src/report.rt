@@ -1,10 +1,14 @@
-//! The answer to a file's name: reading it, and what is said of its text.
+//! The answer to a request: reading its files, and what is said of them.
 
-ghost use Rattle.std.specs.Prelude.{◌≡◌, ◌++◌, ℕ, replicate, IfOk};
-ghost use Rattle.std.specs.String.{string_bytes};
+ghost use Rattle.std.specs.Prelude.{◌≡◌, ◌<◌, ◌++◌, ℕ, map, replicate, IfOk};
+ghost use Rattle.std.specs.Option.{option_map};
 ghost use Rattle.shade_top.specs.Answer.{IsChecked, fault_read, refused_notyet, verdict_status};
-ghost use Rattle.shade_top.specs.Report.{answer_of, Answers, IsVerdict};
+ghost use Rattle.shade_top.specs.Report.{answer_of, Answers, IsVerdict, request_seen};
+ghost use Rattle.shade_top.specs.Request.{files};
+ghost use Rattle.shade_top.specs.Serves.{Adds, IsReadOf};
 
+use crate::request::Request;
+use crate::run::run_bytes;
 use shade_base::{Severity, Shelf, ShelfRefusal};
 use shade_core::CoreModule;
 use shade_first::{FirstFault, first_form};
@@ -13,7 +17,7 @@ use shade_verdict::{Violation, violations_of};
 use std::alloc::{AllocError, Global};
 
 /// The greatest number of bytes of a text of the first form.
-const LIMIT: usize = 4096;
+const TEXT_LIMIT: usize = 4096;
 
 /// A status and the text that goes with it.
 #[derive(Drop)]
@@ -22,20 +26,49 @@ pub struct Report {
     pub text: Vec<u8>,
 }
 
-/// Reads a file, and says what came of it.
-pub fn report_on<H: Shelf>(alloc: Global, name: &str, shelf: &mut H) -> Result<Report, AllocError>
-    ensures answers { IfOk result (λ report. Answers (H.texts shelf.old) (H.failed shelf.old) (H.failed shelf.new) name.now (answer_of report)) }
+/// Does what a request asks for, and says what came of it.
+pub fn report_on<H: Shelf>(
+    alloc: Global,
+    request: Request,
+    shelf: &mut H,
+) -> Result<Report, AllocError>
+    ensures answers { IfOk result (λ report. Answers (H.texts shelf.old) (H.failed shelf.old) (H.failed shelf.new) (request_seen request.entry) (answer_of report)) }
     ensures texts { H.texts shelf.new ≡ H.texts shelf.old }
-    ensures one_name { (n : ℕ) × (H.failed shelf.new ≡ H.failed shelf.old ++ replicate n name.now) }
+    ensures names { Adds (map (λ file. file.name) (files (request_seen request.entry))) (H.failed shelf.old) (H.failed shelf.new) }
 {
-    match shelf.read(alloc, name, LIMIT) {
-        Ok(bytes) => check(alloc, &bytes),
-        Err(ShelfRefusal::Failed) => fault(alloc, name),
+    match request {
+        Request::Check(file) => match read(alloc, file, TEXT_LIMIT, shelf)? {
+            Some(bytes) => check(alloc, &bytes),
+            None => fault(alloc, file),
+        },
+        Request::Run(file, job) => match read(alloc, file, TEXT_LIMIT, shelf)? {
+            Some(bytes) => run_bytes(alloc, &bytes, job, shelf),
+            None => fault(alloc, file),
+        },
+    }
+}
+
+/// What a read of a file gives: its first bytes, or nothing where it fails.
+pub fn read<H: Shelf>(
+    alloc: Global,
+    name: &str,
+    limit: usize,
+    shelf: &mut H,
+) -> Result<Option<Vec<u8>>, AllocError>
+    requires { limit < usize.MAX }
+    ensures given { IfOk result (λ read. IsReadOf (H.texts shelf.old) (H.failed shelf.old) (H.failed shelf.new) (record { name = name.now; limit = limit }) (option_map (λ bytes. bytes.items) read)) }
+    ensures texts { H.texts shelf.new ≡ H.texts shelf.old }
+    ensures names { (n : ℕ) × (H.failed shelf.new ≡ H.failed shelf.old ++ replicate n name.now) }
+{
+    match shelf.read(alloc, name, limit) {
+        Ok(bytes) => Ok(Some(bytes)),
+        Err(ShelfRefusal::Failed) => Ok(None),
         Err(ShelfRefusal::NoMemory) => Err(AllocError),
     }
 }
 
-fn fault(alloc: Global, name: &str) -> Result<Report, AllocError>
+/// Says that a file was not read.
+pub fn fault(alloc: Global, name: &str) -> Result<Report, AllocError>
     ensures { IfOk result (λ report. answer_of report ≡ fault_read name.now) }
 {
     let text = format!(in alloc; "fault read {name}\n")?;
@@ -56,7 +89,8 @@ fn check(alloc: Global, bytes: &[u8]) -> Result<Report, AllocError>
     }
 }
 
-fn not_yet(alloc: Global, offset: u32) -> Result<Report, AllocError>
+/// Says where a text leaves the first form.
+pub fn not_yet(alloc: Global, offset: u32) -> Result<Report, AllocError>
     ensures { IfOk result (λ report. answer_of report ≡ refused_notyet offset) }
 {
     let text = format!(in alloc; "refused notyet {offset}\n")?;
@@ -77,7 +111,7 @@ fn status_of(violations: &[Violation]) -> u8
 }
 
 /// The verdict on a module.
-fn judge(alloc: Global, checked: &CoreModule) -> Result<Report, AllocError>
+pub fn judge(alloc: Global, checked: &CoreModule) -> Result<Report, AllocError>
     ensures { IfOk result (λ report. IsVerdict checked.now.functions (answer_of report)) }
 {
     let violations = violations_of(alloc, checked)?;

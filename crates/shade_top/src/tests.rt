@@ -83,10 +83,68 @@ fn verdicts(rt: HostRuntime) -> Result<(), Fail> {
     Ok(())
 }
 
+/// What a run of the text by the job prints, and its status.
+fn ran(alloc: Global, text: Vec<u8>, job: &str) -> Result<(Status, MemorySink), AllocError> {
+    let mut texts = BTreeMap::new(alloc);
+    let _ = texts.insert(String::from_str(alloc, "a.wgsl")?, text)?;
+    let steps = String::from_str(alloc, job)?.into_bytes();
+    let _ = texts.insert(String::from_str(alloc, "a.job")?, steps)?;
+    let mut shelf = MemoryShelf::new(alloc, texts, Vec::new(alloc));
+    let mut out = MemorySink::new(alloc, 4096, Vec::new(alloc))?;
+    let words = words_of(alloc, &["run", "a.wgsl", "a.job"])?;
+    let status = serve(alloc, &words, &mut shelf, &mut out);
+    Ok((status, out))
+}
+
+#[test]
+fn runs(rt: HostRuntime) -> Result<(), Fail> {
+    let alloc = rt.alloc();
+    let clean = "  if (i < 1u) { }\n  workgroupBarrier();\n";
+    let rows: [(&str, &str, u8, &str); 7] = [
+        // the stuttering list
+        (
+            clean,
+            "0\n0\n0\n0\n1\n1\n1\n0\n1\n",
+            0,
+            "run ended steps 9 stutters 1\nreleased 1\nrelease 0 main#2()\nraces 0\n",
+        ),
+        // the empty job
+        (
+            clean,
+            "",
+            9,
+            "run spent steps 0 stutters 0\nreleased 0\nraces 0\n",
+        ),
+        // steps after the end, and two barriers in turn
+        (
+            "  workgroupBarrier();\n  workgroupBarrier();\n",
+            "0\n1\n1\n0\n1\n0\n0\n",
+            0,
+            "run ended steps 7 stutters 1\nreleased 2\nrelease 0 main#0()\nrelease 1 main#1()\nraces 0\n",
+        ),
+        (clean, "2\n", 4, "refused job / J1\n"),
+        (clean, "0", 4, "refused job / J1\n"),
+        // the job of a rejected shader is not read
+        (
+            "  if (i < 1u) {\n    workgroupBarrier();\n  }\n",
+            "no job",
+            1,
+            "rejected errors 1 warnings 0 infos 0\nerror main #2 4:5 workgroupBarrier\n  required error\n  control before #2 4:5\n  part 0 of #1 3:3\n  value #0 3:9\n  parameter 0\n  non-uniform\n",
+        ),
+        ("  return;\n", "no job", 2, "refused notyet 81\n"),
+    ];
+    for (body, job, status, text) in rows {
+        let (got, out) = ran(alloc, text_of(alloc, body)?, job)?;
+        assert_eq!(rt; got, Status(status), "{body}{job}");
+        assert_eq!(rt; out.bytes(), text.as_bytes(), "{body}{job}");
+    }
+    Ok(())
+}
+
 #[test]
 fn other_statuses(rt: HostRuntime) -> Result<(), Fail> {
     let alloc = rt.alloc();
-    let rows: [(&[&str], u8, &str); 6] = [
+    let rows: [(&[&str], u8, &str); 9] = [
         (&[], 3, "bad words\n"),
         (&["check"], 3, "bad words\n"),
         (&["Check", "a.wgsl"], 3, "bad words\n"),
@@ -95,6 +153,9 @@ fn other_statuses(rt: HostRuntime) -> Result<(), Fail> {
         (&["check", "a.wgsl"], 5, "fault read a.wgsl\n"),
         // the sixth write fails after three bytes
         (&["check", "a.wgsl"], 6, "acc"),
+        (&["run", "a.wgsl"], 3, "bad words\n"),
+        (&["run", "b.wgsl", "a.job"], 5, "fault read b.wgsl\n"),
+        (&["run", "a.wgsl", "a.job"], 5, "fault read a.job\n"),
     ];
     let mut shelf = shelf_with(alloc, text_of(alloc, "")?, vec![in alloc; 1]?)?;
     let mut out = MemorySink::new(alloc, 4096, vec![in alloc; (5, 3)]?)?;

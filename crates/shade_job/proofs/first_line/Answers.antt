@@ -1,4 +1,4 @@
-use Rattle.std.proofs.Common.{rules, ◌≡◌, ◌+◌, ◌++◌, ◌∙◌, sym, ap, drop, arith}
+use Rattle.std.proofs.Common.{rules, ◌++◌, ◌∙◌, sym, ap, arith}
 use Rattle.shade_job.specs.Steps.{line}
 use Rattle.shade_job.proofs.Lines.{no_break, no_lane, found_line}
 use Rattle.shade_job.proofs.first_line.Goals as goal

@@ -1,6 +1,6 @@
 use Rattle.std.proofs.Common.{rules}
 use Rattle.shade_top.specs.Report.{answer_of}
-use Rattle.shade_top.proofs.ServeLaws.{judged_report, refused_report}
+use Rattle.shade_top.proofs.RunLaws.{judged_report, refused_report}
 use Rattle.shade_top.proofs.report.check.Goals as goal
 
 pub returns-in-Ok : goal.returns-in-Ok

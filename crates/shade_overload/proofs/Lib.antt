@@ -1,0 +1,7 @@
+pub mod BestLaws
+pub mod Conversions
+pub mod PatternLaws
+pub mod MemoryLaws
+pub mod VectorLaws
+pub mod RowLaws
+pub mod OneBest
