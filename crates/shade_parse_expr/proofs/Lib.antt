@@ -12,3 +12,4 @@ pub mod Trees
 pub mod Turns
 pub mod Readings
 pub mod Accesses
+pub mod Loops

@@ -75,7 +75,7 @@ counted_more prior nodes a b c others h k = record {
 pub counted_is : (prior nodes others : List ℕ) (a b : ℕ) → nodes ≡ others → Counted prior others a b → Counted prior nodes a b
 counted_is prior nodes others a b e h = subst (λ x. Counted prior x a b) (sym e) h
 
-counted_all : (nodes : List ℕ) (a b : ℕ) → Counted [] nodes a b → CountFrom a nodes b
+pub counted_all : (nodes : List ℕ) (a b : ℕ) → Counted [] nodes a b → CountFrom a nodes b
 counted_all nodes a b h = subst (λ x. CountFrom a x b) (sym h.nodes_are) h.counted
 
 -- a tree whose names are known and whose nodes are counted
