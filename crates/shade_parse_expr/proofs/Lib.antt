@@ -1,0 +1,15 @@
+pub mod Tokens
+pub mod Stands
+pub mod Chains
+pub mod Layers
+pub mod Ranks
+pub mod Shifts
+pub mod Joins
+pub mod Prefixes
+pub mod Primaries
+pub mod Listings
+pub mod Trees
+pub mod Turns
+pub mod Readings
+pub mod Accesses
+pub mod Loops

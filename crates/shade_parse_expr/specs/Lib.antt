@@ -1,0 +1,4 @@
+pub mod Shown
+pub mod Operators
+pub mod Rests
+pub mod Parts
