@@ -11,7 +11,7 @@ ScalarBecomes scalar.Abstract scalar.Bool = ⊥
 ScalarBecomes scalar.Abstract to = Unit {0}
 ScalarBecomes from to = from ≡ to
 
--- a vector becomes another part by part; each other type stays what it is
+-- a vector becomes another part by part; each other type stays what it is (an array of AbstractInt converts too, but no row takes one)
 abbrev pub Becomes : ShadeType → ShadeType → Type 0
 Becomes (type.Plain from) (type.Plain to) = ScalarBecomes from to
 Becomes (type.Vector m from) (type.Vector n to) = (m ≡ n) × ScalarBecomes from to

@@ -1,4 +1,4 @@
--- What the code keeps of a row of scalars and vectors, and the rows that this stands for.
+-- What the code keeps of a row of scalars and vectors, and the rows that this stands for. No public clause cites this.
 use Rattle.std.specs.Prelude.{◌≡◌, ◌≢◌, ℕ, ◌+◌, ◌≤◌, map, ◌⊎◌, List, [], ◌∷◌, Option, Some, None, slice_get}
 use Rattle.shade_values.specs.declared.types.Scalar.{Scalar}
 use Rattle.shade_values.specs.declared.types.Scalar.TheVariants as scalar
