@@ -20,6 +20,11 @@ const B: Scalar = Scalar::Bool;
 
 const A: Scalar = Scalar::Abstract;
 
+/// The least number of `i32`, and the greatest of `u32`.
+const LEAST: i64 = -2_147_483_648;
+
+const GREATEST: i64 = 4_294_967_295;
+
 fn of(scalar: Scalar, number: i64) -> Leaf {
     Leaf { scalar, number }
 }
@@ -128,148 +133,58 @@ fn scalars(
 #[test]
 fn one_scalar(rt: HostRuntime) -> Result<(), Fail> {
     let alloc = rt.alloc();
-    scalars(
-        &rt,
-        alloc,
-        Op::Negate,
-        &[of(I, -2_147_483_648)],
-        of(I, -2_147_483_648),
-    )?;
-    scalars(
-        &rt,
-        alloc,
-        Op::Complement,
-        &[of(U, 1)],
-        of(U, 4_294_967_294),
-    )?;
-    scalars(&rt, alloc, Op::Complement, &[of(I, 0)], of(I, -1))?;
-    scalars(&rt, alloc, Op::Not, &[of(B, 0)], of(B, 1))?;
-    scalars(
-        &rt,
-        alloc,
-        Op::Abs,
-        &[of(I, -2_147_483_648)],
-        of(I, -2_147_483_648),
-    )?;
-    scalars(&rt, alloc, Op::Sign, &[of(I, -5)], of(I, -1))?;
-    scalars(
-        &rt,
-        alloc,
-        Op::Convert(U),
-        &[of(I, -1)],
-        of(U, 4_294_967_295),
-    )?;
-    scalars(
-        &rt,
-        alloc,
-        Op::Convert(I),
-        &[of(U, 4_294_967_295)],
-        of(I, -1),
-    )?;
-    scalars(&rt, alloc, Op::Convert(B), &[of(U, 2)], of(B, 1))?;
-    scalars(
-        &rt,
-        alloc,
-        Op::Bitcast(1, I),
-        &[of(U, 2_147_483_648)],
-        of(I, -2_147_483_648),
-    )?;
-    scalars(&rt, alloc, Op::CountOneBits, &[of(I, -1)], of(I, 32))?;
-    scalars(&rt, alloc, Op::CountLeadingZeros, &[of(U, 0)], of(U, 32))?;
-    scalars(&rt, alloc, Op::CountTrailingZeros, &[of(U, 8)], of(U, 3))?;
-    scalars(
-        &rt,
-        alloc,
-        Op::ReverseBits,
-        &[of(I, 1)],
-        of(I, -2_147_483_648),
-    )?;
-    scalars(&rt, alloc, Op::FirstLeadingBit, &[of(I, -1)], of(I, -1))?;
-    scalars(&rt, alloc, Op::FirstLeadingBit, &[of(I, -2)], of(I, 0))?;
-    scalars(
-        &rt,
-        alloc,
-        Op::FirstLeadingBit,
-        &[of(U, 4_294_967_295)],
-        of(U, 31),
-    )?;
-    scalars(
-        &rt,
-        alloc,
-        Op::FirstTrailingBit,
-        &[of(U, 0)],
-        of(U, 4_294_967_295),
-    )?;
-    scalars(&rt, alloc, Op::FirstTrailingBit, &[of(U, 12)], of(U, 2))?;
+    let rows: [(Op, Leaf, Leaf); 19] = [
+        (Op::Negate, of(I, LEAST), of(I, LEAST)),
+        (Op::Complement, of(U, 1), of(U, GREATEST - 1)),
+        (Op::Complement, of(I, 0), of(I, -1)),
+        (Op::Not, of(B, 0), of(B, 1)),
+        (Op::Abs, of(I, LEAST), of(I, LEAST)),
+        (Op::Sign, of(I, -5), of(I, -1)),
+        (Op::Convert(U), of(I, -1), of(U, GREATEST)),
+        (Op::Convert(I), of(U, GREATEST), of(I, -1)),
+        (Op::Convert(B), of(U, 2), of(B, 1)),
+        (Op::Bitcast(1, I), of(U, 2_147_483_648), of(I, LEAST)),
+        (Op::CountOneBits, of(I, -1), of(I, 32)),
+        (Op::CountLeadingZeros, of(U, 0), of(U, 32)),
+        (Op::CountTrailingZeros, of(U, 8), of(U, 3)),
+        (Op::ReverseBits, of(I, 1), of(I, LEAST)),
+        (Op::FirstLeadingBit, of(I, -1), of(I, -1)),
+        (Op::FirstLeadingBit, of(I, -2), of(I, 0)),
+        (Op::FirstLeadingBit, of(U, GREATEST), of(U, 31)),
+        (Op::FirstTrailingBit, of(U, 0), of(U, GREATEST)),
+        (Op::FirstTrailingBit, of(U, 12), of(U, 2)),
+    ];
+    for (op, arg, wanted) in rows {
+        scalars(&rt, alloc, op, &[arg], wanted)?;
+    }
     Ok(())
 }
 
 #[test]
 fn several_scalars(rt: HostRuntime) -> Result<(), Fail> {
     let alloc = rt.alloc();
-    scalars(
-        &rt,
-        alloc,
-        Op::ExtractBits,
-        &[of(I, 128), of(U, 4), of(U, 4)],
-        of(I, -8),
-    )?;
-    scalars(
-        &rt,
-        alloc,
-        Op::ExtractBits,
-        &[of(U, 128), of(U, 4), of(U, 4)],
-        of(U, 8),
-    )?;
-    scalars(
-        &rt,
-        alloc,
-        Op::ExtractBits,
-        &[of(U, 4_294_967_295), of(U, 31), of(U, 9)],
-        of(U, 1),
-    )?;
-    scalars(
-        &rt,
-        alloc,
-        Op::ExtractBits,
-        &[of(I, -1), of(U, 3), of(U, 0)],
-        of(I, 0),
-    )?;
-    scalars(
-        &rt,
-        alloc,
-        Op::InsertBits,
-        &[of(U, 4_294_967_295), of(U, 0), of(U, 4), of(U, 8)],
-        of(U, 4_294_963_215),
-    )?;
-    scalars(
-        &rt,
-        alloc,
-        Op::InsertBits,
-        &[of(I, 0), of(I, -1), of(U, 0), of(U, 99)],
-        of(I, -1),
-    )?;
-    scalars(
-        &rt,
-        alloc,
-        Op::Clamp,
-        &[of(I, 9), of(I, 0), of(I, 4)],
-        of(I, 4),
-    )?;
-    scalars(
-        &rt,
-        alloc,
-        Op::Clamp,
-        &[of(I, 1), of(I, 5), of(I, 4)],
-        of(I, 4),
-    )?;
-    scalars(
-        &rt,
-        alloc,
-        Op::Select,
-        &[of(U, 1), of(U, 2), of(B, 1)],
-        of(U, 2),
-    )?;
+    let extracted: [([Leaf; 3], Leaf); 4] = [
+        ([of(I, 128), of(U, 4), of(U, 4)], of(I, -8)),
+        ([of(U, 128), of(U, 4), of(U, 4)], of(U, 8)),
+        ([of(U, GREATEST), of(U, 31), of(U, 9)], of(U, 1)),
+        ([of(I, -1), of(U, 3), of(U, 0)], of(I, 0)),
+    ];
+    for (args, wanted) in extracted {
+        scalars(&rt, alloc, Op::ExtractBits, &args, wanted)?;
+    }
+    let clamped: [([Leaf; 3], Leaf); 2] = [
+        ([of(I, 9), of(I, 0), of(I, 4)], of(I, 4)),
+        ([of(I, 1), of(I, 5), of(I, 4)], of(I, 4)),
+    ];
+    for (args, wanted) in clamped {
+        scalars(&rt, alloc, Op::Clamp, &args, wanted)?;
+    }
+    let low = [of(U, GREATEST), of(U, 0), of(U, 4), of(U, 8)];
+    scalars(&rt, alloc, Op::InsertBits, &low, of(U, 4_294_963_215))?;
+    let all = [of(I, 0), of(I, -1), of(U, 0), of(U, 99)];
+    scalars(&rt, alloc, Op::InsertBits, &all, of(I, -1))?;
+    let choice = [of(U, 1), of(U, 2), of(B, 1)];
+    scalars(&rt, alloc, Op::Select, &choice, of(U, 2))?;
     Ok(())
 }
 
