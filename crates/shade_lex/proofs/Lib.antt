@@ -4,6 +4,7 @@ pub mod ValueLaws
 pub mod Longest
 pub mod PieceLaws
 pub mod LexLaws
+pub mod WithinLaws
 pub mod OnceLaws
 pub mod ScanLaws
 pub mod ScanSteps

@@ -1,5 +1,6 @@
 -- The tokens of a text: blanks and tokens spell it from its first character to its last.
-use Rattle.std.specs.Prelude.{◌≡◌, ℕ, ◌+◌, ◌-◌, ◌<◌, List, [], ◌∷◌, ◌++◌, length, take, drop, chars, encode_utf8_all}
+use Rattle.std.specs.Prelude.{◌≡◌, ℕ, ◌+◌, ◌-◌, ◌<◌, ◌≤◌, List, [], ◌∷◌, ◌++◌, length, take, drop, chars, encode_utf8_all}
+use Rattle.std.specs.Str.{IsCharBoundary}
 use Rattle.shade_base.specs.declared.place.Place.{Place}
 use Rattle.shade_base.specs.Lines.{place_of}
 use Rattle.shade_lex.specs.declared.token.Token.{Token}
@@ -45,6 +46,16 @@ pub record AreTokens (text : List ℕ) (tokens : List Token) : Type 0 where
   pub pieces : List Piece
   pub spell : SpellsTo (chars text) pieces []
   pub are : tokens ≡ tokens_from text 0 (chars text) pieces
+
+-- a text that is short enough, and its tokens
+pub record IsLexed (text : List ℕ) (tokens : List Token) : Type 0 where
+  pub small : length text ≤ 1048576
+  pub tokens_are : AreTokens text tokens
+
+-- A token begins and ends between characters.
+pub record IsWithin (text : List ℕ) (token : Token) : Type 0 where
+  pub begins : IsCharBoundary text token.place.offset
+  pub ends : IsCharBoundary text (token.place.offset + token.length)
 
 -- The problem at the first place of a text where neither a blank nor a token begins.
 pub record IsProblemOf (text : List ℕ) (place : Place) (p : Problem) : Type 0 where

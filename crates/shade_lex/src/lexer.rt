@@ -11,7 +11,7 @@ use shade_base::{Place, place_after};
 use std::alloc::{AllocError, Global};
 use std::marker::Model;
 
-/// A text and its tokens in order.
+/// A text of at most 1,048,576 bytes and its tokens in order.
 #[derive(Debug, Drop)]
 pub struct Tokens {
     text: String,
@@ -20,24 +20,29 @@ pub struct Tokens {
 
 impl Model for Tokens {
     ghost use Rattle.std.specs.Prelude.{string_bytes};
-    ghost use Rattle.shade_lex.specs.Tokens.{LexedText};
+    ghost use Rattle.shade_lex.specs.Tokens.{IsLexed, LexedText};
 
     ghost Value = { LexedText };
 
     ghost view = { λ t. record { text = string_bytes t.text; tokens = t.items.items } };
+
+    ghost invariant = { λ t. IsLexed (string_bytes t.text) t.items.items };
 }
 
 impl Tokens {
     /// The text. Takes no memory.
     pub fn text(&self) -> &str
-        ensures { result.now ≡ self.now.text }
+        ensures text { result.now ≡ self.now.text }
+        ensures tokens { AreTokens self.now.text self.now.tokens }
+        ensures small { length self.now.text ≤ 1048576 }
     {
         self.text.as_str()
     }
 
     /// The tokens in order. Takes no memory.
     pub fn as_slice(&self) -> &[Token]
-        ensures { result.now ≡ self.now.tokens }
+        ensures items { result.now ≡ self.now.tokens }
+        ensures tokens { AreTokens self.now.text self.now.tokens }
     {
         self.items.as_slice()
     }

@@ -1,5 +1,5 @@
 -- Functions that go on with a part that they are handed, with trees and numbers.
-use Rattle.std.proofs.Common.{◌≡◌, refl, sym, ap, ◌∙◌, subst, ℕ, ◌+◌, ◌<◌, ◌≤◌, Bool, true, false, List, [], ◌∷◌, ◌++◌, length, map, arith, Some, slice_get}
+use Rattle.std.proofs.Common.{◌≡◌, sym, ap, ◌∙◌, subst, ℕ, ◌+◌, ◌≤◌, true, false, List, [], length, map, arith, Some, slice_get, Result, MatchResult}
 use Rattle.shade_base.specs.declared.place.Place.{Place}
 use Rattle.shade_ast.specs.declared.lexeme.Sign.TheVariants as sign
 use Rattle.shade_ast.specs.declared.expr.Infix.{Infix as InfixOperator}
@@ -11,21 +11,23 @@ use Rattle.shade_ast.specs.Shaped.{expr_shape, expr_shapes}
 use Rattle.shade_ast.specs.Needs.{expr_needs}
 use Rattle.shade_ast.specs.Nodes.{expr_nodes}
 use Rattle.shade_ast.specs.Repeats.{Listed, MaybeListed}
-use Rattle.shade_ast.specs.Expressions.{Expression, Shift, Primary, LeftSide, TypeName}
+use Rattle.shade_ast.specs.Expressions.{Additive, Expression, Relational, Shift, Primary, LeftSide, TypeName, Unary}
 use Rattle.shade_ast.specs.Reads.{Reads, Fails}
 use Rattle.shade_ast.proofs.Lists.{Closed}
 use Rattle.shade_ast.proofs.LeftLaws.{MemberStep, IndexStep, LeftFirst}
 use Rattle.shade_ast.proofs.ShapeLaws.{expr_grows}
 use Rattle.shade_parse_expr.specs.declared.part.Part.{Part}
 use Rattle.shade_parse_expr.specs.declared.part.Listing.{Listing}
-use Rattle.shade_parse_expr.specs.Operators.{ComparisonAt}
-use Rattle.shade_parse_expr.specs.Parts.{ReadsTree, ReadsList}
+use Rattle.shade_parse_expr.specs.declared.part.Fault.{Fault}
+use Rattle.shade_parse_expr.specs.Operators.{ComparisonAt, ShiftAt}
+use Rattle.shade_parse_expr.specs.Parts.{ReadsTree, ReadsList, Faults}
 use Rattle.shade_parse_expr.specs.Rests.{is_bare, Called, Compared}
 use Rattle.shade_parse_expr.proofs.Trees.{Tree, tree_of, reads_tree, tree_grows, built_index, built_member, built_call, built_paren, built_template, built_infix}
-use Rattle.shade_parse_expr.proofs.Readings.{here_tree, infix_tree}
+use Rattle.shade_parse_expr.proofs.Readings.{here_tree, infix_tree, goes_on}
+use Rattle.shade_parse_expr.proofs.Turns.{reads_grows}
 use Rattle.shade_parse_expr.proofs.Primaries.{by_name_reads, by_index_reads, called_reads, paren_reads, template_reads}
 use Rattle.shade_parse_expr.proofs.Listings.{left_paren_reads}
-use Rattle.shade_parse_expr.proofs.Shifts.{compared_reads, compared_none}
+use Rattle.shade_parse_expr.proofs.Shifts.{compared_reads, relation_shift_reads, relation_shift_fails, shift_reads}
 
 -- a phrase of a tree that was built, where it ends
 ends_at : (G : ExprShape → List Lexeme → List Lexeme → Type 0) (n : ℕ) (tokens : List Lexeme) (names : List (List ℕ)) (from : ℕ) (p : Part) (s : ExprShape) (end : ℕ) → expr_shape names p.expr ≡ s → p.end ≡ end → Reads G n tokens from s end → Reads G n tokens from (expr_shape names p.expr) p.end
@@ -78,3 +80,36 @@ module _ (tokens : List Lexeme) (names : List (List ℕ)) (from node : ℕ) (h :
   template_tree p r place q name text is stored opens x same =
       let k = built_template names node p place name text r.items r.trailing r.end r.node same stored x.known x.nodes in
       reads_tree TypeName 0 tokens names [] from node p k.1 (ends_at TypeName 0 tokens names from p (template place text (expr_shapes (map (expr_shape names) r.items)) r.trailing) r.end k.0 (ap (λ x. x.end) same) (template_reads tokens from h text place is q opens r.end (map (expr_shape names) r.items, r.trailing) x.reads))
+
+-- a shift, alone and on the left of a comparison
+module _ (tokens : List Lexeme) (mid new : List (List ℕ)) (from node : ℕ) (h : from ≤ length tokens) (l r p : Part) (i : InfixOperator) (at : Place) (next : ℕ) (a : ReadsTree Additive 4 tokens mid [] from node l) (g : Grows mid new) (o : ShiftAt tokens l.end l.bare i at next) (x : ReadsTree Unary 2 tokens new [] next l.node r) (same : p ≡ record { expr = record { node = r.node; place = l.expr.place; kind = kind.Infix l.expr i at r.expr }; end = r.end; node = r.node + 1; bare = false }) where
+  abbrev Left : ExprShape
+  Left = expr_shape new l.expr
+
+  abbrev Whole : ExprShape
+  Whole = infixed (place_of Left) Left i at (expr_shape new r.expr)
+
+  left_tree : Tree new [] node l
+  left_tree = tree_grows mid new [] node l g (tree_of Additive 4 tokens mid [] from node l a)
+
+  left_reads : Reads Additive 4 tokens from Left l.end
+  left_reads = reads_grows Additive 4 tokens from mid new [] node l (tree_of Additive 4 tokens mid [] from node l a) g a.reads
+
+  stands : ShiftAt tokens l.end (is_bare Left) i at next
+  stands = subst (λ b. ShiftAt tokens l.end b i at next) left_tree.bare o
+
+  pub shift_tree : ReadsTree Shift 6 tokens new [] from node p
+  shift_tree = infix_tree Shift 6 tokens new [] from node p l r i at same left_tree (tree_of Unary 2 tokens new [] next l.node r x) (shift_reads tokens from h Left l.end left_reads i at next stands r.end (expr_shape new r.expr) x.reads)
+
+  whole : (expr_shape new p.expr ≡ Whole) × Tree new [] node p
+  whole = built_infix new [] node p l r i at same left_tree (tree_of Unary 2 tokens new [] next l.node r x)
+
+  ends : p.end ≡ r.end
+  ends = ap (λ y. y.end) same
+
+  pub shifted_on : (first last : List (List ℕ)) (c : Result Part Fault) → length new + from ≤ length first + p.end → MatchResult c (λ q. ReadsTree (Compared (expr_shape new p.expr)) 6 tokens last (expr_nodes p.expr) p.end p.node q) (λ f. Faults (Compared (expr_shape new p.expr)) 6 tokens new last p.end f) → MatchResult c (λ q. ReadsTree Relational 6 tokens last [] from node q) (λ f. Faults Relational 6 tokens first last from f)
+  shifted_on first last c few y =
+      goes_on Relational (Compared (expr_shape new p.expr)) 6 6 tokens first new last from node p.end p c few whole.1.nodes
+      (λ e to z. relation_shift_reads tokens from h Left l.end left_reads i at next stands r.end (expr_shape new r.expr) x.reads to e (subst (λ s. Reads (Compared s) 6 tokens r.end e to) whole.0 (subst (λ k. Reads (Compared (expr_shape new p.expr)) 6 tokens k e to) ends z)))
+      (λ to z. relation_shift_fails tokens from h Left l.end left_reads i at next stands r.end (expr_shape new r.expr) x.reads to (subst (λ s. Fails (Compared s) 6 tokens r.end to) whole.0 (subst (λ k. Fails (Compared (expr_shape new p.expr)) 6 tokens k to) ends z)))
+      y

@@ -1,5 +1,5 @@
 -- What is left of a phrase is read by another function.
-use Rattle.std.proofs.Common.{◌≡◌, refl, sym, ap, ◌∙◌, subst, ℕ, ◌+◌, ◌<◌, ◌≤◌, List, [], ◌∷◌, ◌++◌, length, drop, arith, append_assoc, Some, slice_get}
+use Rattle.std.proofs.Common.{◌≡◌, sym, ap, ◌∙◌, subst, ℕ, ◌+◌, ◌<◌, ◌≤◌, List, ◌++◌, drop, arith, append_assoc, Some, slice_get}
 use Rattle.shade_ast.specs.Lexemes.{Lexeme}
 use Rattle.shade_ast.specs.Reads.{Near, Reads, Fails, rank, rank_of}
 use Rattle.shade_ast.proofs.Stages.{Stage, After, near_append, change, phrase, phrase_fails}

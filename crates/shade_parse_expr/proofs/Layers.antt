@@ -1,23 +1,20 @@
 -- Expressions as layers: what follows their first part.
-use Rattle.std.proofs.Common.{◌≡◌, refl, sym, ap, ◌∙◌, subst, ℕ, ◌+◌, ◌<◌, ◌≤◌, Bool, true, false, Option, None, Some, List, [], ◌∷◌, ◌++◌, length, drop, arith, slice_get}
+use Rattle.std.proofs.Common.{◌≡◌, refl, subst, ℕ, true, false, None, Some, List, ◌∷◌}
 use Rattle.shade_base.specs.declared.place.Place.{Place}
 use Rattle.shade_ast.specs.declared.lexeme.Sign.TheVariants as sign
 use Rattle.shade_ast.specs.declared.expr.Infix.{Infix as InfixOperator}
 use Rattle.shade_ast.specs.declared.expr.Infix.TheVariants as between
-use Rattle.shade_ast.specs.Lexemes.{Lexeme, Word, Key, Number, Mark, Stray, Adjacent}
-use Rattle.shade_ast.specs.Shapes.{ExprShape, infixed, prefixed, member, index, call, template, named, number, truth, falsity, paren, place_of}
-use Rattle.shade_ast.specs.Expressions.{Access, by_name, by_index, Additive, multiplicative, add, subtract, And, and_first, and_more, BitAnd, bit_and_first, bit_and_more, BitOr, bit_or_first, bit_or_more, BitXor, bit_xor_first, bit_xor_more, Call, calls, Expression, relational, either, both as both_sides, bit_and, bit_or, bit_xor, Multiplicative, unary, multiply, divide, remainder, Or, or_first, or_more, Primary, called, typed, numeral, true_word, false_word, parens, Relational, shifted as shift_alone, less, greater, less_equal, greater_equal as greater_or_equal, equal, not_equal, Shift, additive, shift_left, shift_right, Singular, primary, accessed, TypeName, plain_type, template_type, Unary, negate, not, complement, deref, address_of, operand}
-use Rattle.shade_ast.specs.Reads.{Near, Reads, Fails, rank, rank_of}
-use Rattle.shade_ast.proofs.Stages.{Stage, After, Ends, Closes, near_append, near_get, one_token, begin, change, consume, closes_end, closes_after, closes_change}
-use Rattle.shade_ast.proofs.Tails.{Tail, done, on, Infix, Leftward, unroll}
+use Rattle.shade_ast.specs.Lexemes.{Lexeme, Mark}
+use Rattle.shade_ast.specs.Shapes.{ExprShape, infixed, place_of}
+use Rattle.shade_ast.specs.Expressions.{Access, by_name, by_index, Additive, multiplicative, add, subtract, And, and_first, and_more, BitAnd, bit_and_first, bit_and_more, BitOr, bit_or_first, bit_or_more, BitXor, bit_xor_first, bit_xor_more, calls, Expression, relational, either, both as both_sides, bit_and, bit_or, bit_xor, Multiplicative, unary, multiply, divide, remainder, Or, or_first, or_more, Primary, called, typed, numeral, true_word, false_word, parens, Relational, shifted as shift_alone, less, greater, less_equal, greater_equal as greater_or_equal, equal, not_equal, Shift, additive, shift_left, shift_right, Singular, primary, accessed, TypeName, plain_type, template_type, Unary, negate, not, complement, deref, address_of, operand}
+use Rattle.shade_ast.proofs.Stages.{After}
+use Rattle.shade_ast.proofs.Tails.{Tail, done, on, Leftward}
 use Rattle.shade_ast.proofs.LeftLaws.{OrStep, AndStep, BitAndStep, BitOrStep, BitXorStep, or_steps, and_steps, bit_and_steps, bit_or_steps, bit_xor_steps}
-use Rattle.shade_ast.proofs.Firsts.{First, BeginsExpr, first_is, shift_first, expression_first}
-use Rattle.shade_ast.proofs.Placed.{some_place}
 use Rattle.shade_parse_expr.proofs.Tokens.{pair, op_one}
 use Rattle.shade_parse_expr.specs.declared.operators.Joint.{Joint}
 use Rattle.shade_parse_expr.specs.declared.operators.Joint.TheVariants as joint
-use Rattle.shade_parse_expr.specs.Operators.{found, relation_of, Joins}
-use Rattle.shade_parse_expr.specs.Rests.{is_bare, Comparison, plain, greater_equal, Compared, not_compared, compared, Shifting, leftwards, rightwards, Shifted, not_shifted, shifted, JoinStep, Joining, Joined, not_joined, joined}
+use Rattle.shade_parse_expr.specs.Operators.{relation_of, Joins}
+use Rattle.shade_parse_expr.specs.Rests.{is_bare, Comparison, plain, greater_equal, Compared, not_compared, compared, Shifting, leftwards, rightwards, Shifted, not_shifted, shifted, JoinStep, Joined, not_joined, joined}
 
 type_bare : (e : ExprShape) (ts w : List Lexeme) → TypeName e ts w → is_bare e ≡ true
 type_bare e ts w (plain_type p text) = refl

@@ -1,3 +1,4 @@
+pub mod PieceLaws
 pub mod Tokens
 pub mod Stands
 pub mod Chains
@@ -13,3 +14,7 @@ pub mod Turns
 pub mod Readings
 pub mod Accesses
 pub mod Loops
+pub mod PassLaws
+pub mod DepthLaws
+pub mod AnswerLaws
+pub mod OnceLaws

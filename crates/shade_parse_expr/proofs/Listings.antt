@@ -1,14 +1,14 @@
 -- Lists of expressions and left sides, step by step.
-use Rattle.std.proofs.Common.{◌≡◌, refl, sym, ap, ◌∙◌, subst, ℕ, ◌+◌, ◌<◌, ◌≤◌, ◌⊎◌, inl, inr, Bool, true, false, Option, None, Some, List, [], ◌∷◌, ◌++◌, length, drop, arith, slice_get}
+use Rattle.std.proofs.Common.{◌≡◌, refl, sym, ap, ◌∙◌, subst, ℕ, ◌+◌, ◌<◌, ◌≤◌, ◌⊎◌, inl, inr, Bool, true, false, Some, List, [], ◌∷◌, ◌++◌, length, drop, arith, slice_get}
 use Rattle.shade_base.specs.declared.place.Place.{Place}
 use Rattle.shade_ast.specs.declared.lexeme.Sign.{Sign}
 use Rattle.shade_ast.specs.declared.lexeme.Sign.TheVariants as sign
 use Rattle.shade_ast.specs.Lexemes.{Lexeme, Word, Mark}
 use Rattle.shade_ast.specs.Shapes.{ExprShape, named, paren}
 use Rattle.shade_ast.specs.Repeats.{Listed, MaybeListed, nothing, something}
-use Rattle.shade_ast.specs.Expressions.{Expression, LeftSide, LeftSingular}
+use Rattle.shade_ast.specs.Expressions.{Expression, LeftSide}
 use Rattle.shade_ast.specs.Reads.{Near, Reads, Fails, rank, rank_of}
-use Rattle.shade_ast.proofs.Stages.{Stage, After, Ends, Closes, near_get, begin, change, phrase, phrase_fails, finish_ends, stuck}
+use Rattle.shade_ast.proofs.Stages.{Stage, After, Ends, near_get, begin, change, phrase, phrase_fails, finish_ends, stuck}
 use Rattle.shade_ast.proofs.Heads.{Headed, take_head}
 use Rattle.shade_ast.proofs.Lists.{Closed, Item, Choice, listed_begin, maybe_begin, choose_close, choose_item, item_fails, item_close, item_stuck, item_comma}
 use Rattle.shade_ast.proofs.Firsts.{BeginsExpr, first_is, expression_first}

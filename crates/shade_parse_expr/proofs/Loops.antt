@@ -1,5 +1,5 @@
 -- Products and sums, one operator at a time; a list, one item at a time.
-use Rattle.std.proofs.Common.{◌≡◌, refl, sym, ap, ◌∙◌, subst, ℕ, ◌+◌, ◌<◌, ◌≤◌, max, Bool, true, false, Option, None, Some, List, [], ◌∷◌, ◌++◌, length, map, arith, append_assoc, slice_get}
+use Rattle.std.proofs.Common.{◌≡◌, refl, sym, ap, ◌∙◌, subst, ℕ, ◌+◌, ◌<◌, ◌≤◌, true, false, None, Some, List, [], ◌∷◌, ◌++◌, length, map, arith, append_assoc, slice_get}
 use Rattle.std.proofs.lemmas.List.{append-nil}
 use Rattle.shade_base.specs.declared.place.Place.{Place}
 use Rattle.shade_ast.specs.declared.lexeme.Sign.{Sign}
@@ -17,13 +17,13 @@ use Rattle.shade_ast.specs.Expressions.{Additive, Expression, Multiplicative, Un
 use Rattle.shade_ast.specs.Reads.{Reads, Fails}
 use Rattle.shade_ast.proofs.Stages.{Stage}
 use Rattle.shade_ast.proofs.Tails.{Tail, tail_ends, left_more, left_more_fails}
-use Rattle.shade_ast.proofs.Lists.{Closed, Item}
+use Rattle.shade_ast.proofs.Lists.{Closed}
 use Rattle.shade_ast.proofs.LeftLaws.{Factor, factors, factor_ranks, Term, terms, term_ranks}
-use Rattle.shade_ast.proofs.ShapeLaws.{expr_grows, list_grows, length_grows, grows_trans}
+use Rattle.shade_ast.proofs.ShapeLaws.{expr_grows, list_grows, length_grows, grows_here, grows_trans}
 use Rattle.shade_parse_expr.specs.declared.part.Part.{Part}
 use Rattle.shade_parse_expr.specs.declared.part.Listing.{Listing}
 use Rattle.shade_parse_expr.specs.Operators.{found, factor_of, term_of, Closing}
-use Rattle.shade_parse_expr.specs.Parts.{ReadsTree, ReadsList, Counted}
+use Rattle.shade_parse_expr.specs.Parts.{ReadsTree, ReadsList}
 use Rattle.shade_parse_expr.proofs.Tokens.{Told, told, untold, pair}
 use Rattle.shade_parse_expr.proofs.Stands.{factor_there, factor_here, factor_low, factor_none, term_there, term_here, term_low, term_none}
 use Rattle.shade_parse_expr.proofs.Trees.{count_join, counted_all}
@@ -78,6 +78,20 @@ most_one (y ∷ xs) x n a b = let rest : most_of expr_needs (xs ++ x ∷ []) ≤
 joined_one : (xs : List Expr) (x : Expr) → joined_of expr_nodes (xs ++ x ∷ []) ≡ joined_of expr_nodes xs ++ expr_nodes x
 joined_one [] x = append-nil (expr_nodes x)
 joined_one (y ∷ xs) x = ap (λ l. expr_nodes y ++ l) (joined_one xs x) ∙ sym (append_assoc (expr_nodes y) (joined_of expr_nodes xs) (expr_nodes x))
+
+pub turn_list : (s : Sign) (c : Closing s) (tokens : List Lexeme) (size : ℕ) (names : List (List ℕ)) (from start : ℕ) (items : List Expr) → items ≡ [] → from ≤ length tokens → from ≤ size → ListTurn s tokens size names names from start items from start
+turn_list s c tokens size names from start items none h within =
+    subst (λ l. ListTurn s tokens size names names from start l from start) (sym none)
+    (record {
+      stage = list_begin s c tokens from h;
+      known = omega arith;
+      nodes = refl;
+      grows = grows_here names;
+      past = omega arith;
+      within = within;
+      numbered = omega arith;
+      few = omega arith;
+    })
 
 module _ (s : Sign) (c : Closing s) (tokens : List Lexeme) (size : ℕ) (first mid new : List (List ℕ)) (from start : ℕ) (items more : List Expr) (at node : ℕ) (t : ListTurn s tokens size first mid from start items at node) where
   pub turn_item_fails : (to : ℕ) → Fails Expression 7 tokens at to → Fails (Closed (Listed Expression) (Mark s)) 0 tokens from to

@@ -1,5 +1,5 @@
 -- Operators before a phrase, and the token that closes one.
-use Rattle.std.proofs.Common.{◌≡◌, refl, sym, ap, ◌∙◌, subst, ℕ, ◌+◌, ◌<◌, ◌≤◌, ◌⊎◌, inl, inr, Option, None, Some, List, [], ◌∷◌, ◌++◌, length, drop, arith, slice_get}
+use Rattle.std.proofs.Common.{◌≡◌, refl, sym, ap, ◌∙◌, subst, ℕ, ◌+◌, ◌<◌, ◌≤◌, ◌⊎◌, inl, inr, Option, None, Some, List, [], ◌∷◌, length, drop, arith, slice_get}
 use Rattle.shade_base.specs.declared.place.Place.{Place}
 use Rattle.shade_ast.specs.declared.expr.Prefix.{Prefix}
 use Rattle.shade_ast.specs.declared.expr.Prefix.TheVariants as before
@@ -7,7 +7,7 @@ use Rattle.shade_ast.specs.declared.lexeme.Keyword.TheVariants as word
 use Rattle.shade_ast.specs.declared.lexeme.Sign.TheVariants as sign
 use Rattle.shade_ast.specs.Lexemes.{Lexeme, Word, Key, Number, Mark}
 use Rattle.shade_ast.specs.Shapes.{ExprShape, prefixed}
-use Rattle.shade_ast.specs.Expressions.{Call, calls, LeftSide, left_deref, left_address_of, left_singular, LeftSingular, left_name, left_parens, left_accessed, Primary, called, typed, numeral, true_word, false_word, parens, Singular, primary, accessed, TypeName, plain_type, template_type, Unary, negate, not, complement, deref, address_of, operand}
+use Rattle.shade_ast.specs.Expressions.{calls, LeftSide, left_deref, left_address_of, left_singular, LeftSingular, left_name, left_parens, left_accessed, Primary, called, typed, numeral, true_word, false_word, parens, Singular, primary, accessed, TypeName, plain_type, template_type, Unary, negate, not, complement, deref, address_of, operand}
 use Rattle.shade_ast.specs.Reads.{Near, Reads, Fails, rank, rank_of}
 use Rattle.shade_ast.proofs.Stages.{Stage, After, Ends, Closes, near_get, begin, change, consume, phrase, phrase_fails, finish_ends, ends_stops, closes_end, stuck}
 use Rattle.shade_ast.proofs.Placed.{some_place}

@@ -1,27 +1,25 @@
 -- Operands, types, calls and accesses, step by step.
-use Rattle.std.proofs.Common.{◌≡◌, refl, sym, ap, ◌∙◌, subst, ℕ, ◌+◌, ◌<◌, ◌≤◌, ◌⊎◌, inl, inr, Bool, true, false, Option, None, Some, List, [], ◌∷◌, ◌++◌, length, drop, arith, slice_get}
+use Rattle.std.proofs.Common.{◌≡◌, refl, sym, ap, ◌∙◌, subst, ℕ, ◌+◌, ◌<◌, ◌≤◌, ◌⊎◌, inl, inr, Bool, false, Some, List, [], ◌∷◌, ◌++◌, length, drop, arith, slice_get}
 use Rattle.shade_base.specs.declared.place.Place.{Place}
 use Rattle.shade_lex.specs.declared.token.Suffix.{Suffix}
 use Rattle.shade_lex.specs.declared.token.Suffix.TheVariants.{Plain}
 use Rattle.shade_ast.specs.declared.lexeme.Keyword.TheVariants as word
 use Rattle.shade_ast.specs.declared.lexeme.Sign.TheVariants as sign
 use Rattle.shade_ast.specs.Lexemes.{Lexeme, Word, Key, Number, Mark, Stray}
-use Rattle.shade_ast.specs.Shapes.{ExprShape, ExprShapes, NameShape, call, index, member, named, number, template, truth, falsity, paren, place_of}
+use Rattle.shade_ast.specs.Shapes.{ExprShape, ExprShapes, call, index, member, named, number, template, truth, falsity, paren, place_of}
 use Rattle.shade_ast.specs.Shaped.{expr_shapes}
 use Rattle.shade_ast.specs.Repeats.{Listed, MaybeListed, nothing}
-use Rattle.shade_ast.specs.Expressions.{Call, calls, Expression, LeftSide, Primary, called, typed, numeral, true_word, false_word, parens, Singular, TypeName, plain_type, template_type}
+use Rattle.shade_ast.specs.Expressions.{Call, calls, Expression, Primary, called, typed, numeral, true_word, false_word, parens, TypeName, plain_type, template_type}
 use Rattle.shade_ast.specs.Reads.{Near, Reads, Fails, rank, rank_of}
-use Rattle.shade_ast.proofs.Stages.{Stage, After, Then, Ends, Closes, near_get, begin, change, consume, phrase, phrase_fails, finish, finish_ends, ends_stops, closes_end, closes_after, closes_change, stuck, single, single_fails}
-use Rattle.shade_ast.proofs.Tails.{Tail, done, tail_ends, left_first, left_first_fails}
+use Rattle.shade_ast.proofs.Stages.{Stage, After, Ends, Closes, near_get, begin, change, phrase, phrase_fails, finish_ends, ends_stops, closes_end, stuck, single, single_fails}
+use Rattle.shade_ast.proofs.Tails.{Tail, tail_ends}
 use Rattle.shade_ast.proofs.Heads.{Headed, take_head, skip_head}
 use Rattle.shade_ast.proofs.Lists.{Closed}
 use Rattle.shade_ast.proofs.ExprLists.{expr_list, expr_list_back, exprs_there, exprs_here, maybe_exprs_there, maybe_exprs_here}
-use Rattle.shade_ast.proofs.LeftLaws.{AccessStep, IndexStep, MemberStep, LeftFirst, first_name, first_parens, access_ranks}
+use Rattle.shade_ast.proofs.LeftLaws.{AccessStep, IndexStep, MemberStep, access_ranks}
 use Rattle.shade_ast.proofs.Placed.{some_place}
-use Rattle.shade_ast.proofs.Firsts.{First, IsName, type_first}
 use Rattle.shade_parse_expr.specs.Operators.{NoLeaf, StandsWord}
 use Rattle.shade_parse_expr.specs.Rests.{Called}
-use Rattle.shade_parse_expr.proofs.Ranks.{some_unary}
 use Rattle.shade_parse_expr.proofs.Chains.{then_reads, then_fails, step_reads, step_fails}
 use Rattle.shade_parse_expr.proofs.Prefixes.{Closer, closer_closes, closer_stops, closer_reads, closer_stuck}
 

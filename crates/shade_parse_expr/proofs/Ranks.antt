@@ -1,20 +1,18 @@
 -- Where shifts and comparisons go on, and where they end.
-use Rattle.std.proofs.Common.{◌≡◌, refl, sym, ap, ◌∙◌, subst, ℕ, ◌+◌, ◌<◌, ◌≤◌, ◌⊎◌, inl, inr, Bool, true, false, Option, None, Some, List, [], ◌∷◌, ◌++◌, length, drop, arith, slice_get}
+use Rattle.std.proofs.Common.{◌≡◌, refl, sym, ap, ◌∙◌, subst, ℕ, ◌+◌, ◌<◌, true, None, Some, List, [], ◌∷◌, drop, arith, slice_get}
 use Rattle.shade_base.specs.declared.place.Place.{Place}
 use Rattle.shade_ast.specs.declared.lexeme.Sign.TheVariants as sign
 use Rattle.shade_ast.specs.declared.expr.Infix.{Infix as InfixOperator}
 use Rattle.shade_ast.specs.declared.expr.Infix.TheVariants as between
 use Rattle.shade_ast.specs.Lexemes.{Lexeme, Word, Mark, Adjacent}
 use Rattle.shade_ast.specs.Shapes.{ExprShape, infixed, named, place_of}
-use Rattle.shade_ast.specs.Expressions.{Additive, multiplicative, unary, operand, primary, typed, plain_type, Relational, Shift, additive, Unary}
-use Rattle.shade_ast.specs.Reads.{Near, Reads, Fails, rank, rank_of}
-use Rattle.shade_ast.proofs.Stages.{Stage, After, Then, Ends, Closes, near_append, near_get, one_token, begin, change, consume, consume_then, phrase, phrase_fails, finish, finish_ends, ends_stops, stuck, closes_end, closes_after}
-use Rattle.shade_ast.proofs.Firsts.{First, BeginsExpr, first_is, shift_first}
+use Rattle.shade_ast.specs.Expressions.{multiplicative, unary, operand, primary, typed, plain_type, Shift, additive, Unary}
+use Rattle.shade_ast.specs.Reads.{Near, rank, rank_of}
+use Rattle.shade_ast.proofs.Stages.{Stage, After, Then, near_get, change, consume, consume_then}
 use Rattle.shade_ast.proofs.Placed.{some_place}
-use Rattle.shade_parse_expr.specs.Operators.{found, relation_of, Behind, ComparisonAt, one_token as one_sign, two_tokens, ShiftAt, to_left, to_right}
+use Rattle.shade_parse_expr.specs.Operators.{relation_of}
 use Rattle.shade_parse_expr.specs.Rests.{is_bare, Comparison, plain, greater_equal, Compared, not_compared, compared, Shifting, leftwards, rightwards, Shifted, not_shifted, shifted}
-use Rattle.shade_parse_expr.proofs.Tokens.{pair, op_one, Told, told, untold}
-use Rattle.shade_parse_expr.proofs.Layers.{shift_there, shift_back, comparison_there, comparison_back}
+use Rattle.shade_parse_expr.proofs.Tokens.{pair}
 
 -- a place directly behind a mark of one byte
 abbrev pub after_place : Place → Place
@@ -25,12 +23,6 @@ some_unary w = operand (primary (typed (plain_type some_place [])))
 
 pub some_shift : (w : List Lexeme) → Shift (named some_place []) (Word [] some_place ∷ w) w
 some_shift w = additive (multiplicative (unary (some_unary w)))
-
-pub unary_closes : Closes Unary
-unary_closes = record { tree = named some_place []; more = Word [] some_place ∷ []; closed = some_unary }
-
-pub shift_closes : Closes Shift
-shift_closes = record { tree = named some_place []; more = Word [] some_place ∷ []; closed = some_shift }
 
 pub relation_rank : (t : Lexeme) (i : InfixOperator) (p : Place) → relation_of t ≡ Some (i, p) → rank_of t ≡ 6
 relation_rank (Mark sign.Less q) i p e = refl

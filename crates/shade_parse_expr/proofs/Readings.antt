@@ -1,25 +1,30 @@
 -- Functions of the parser: what they read, with trees and numbers.
-use Rattle.std.proofs.Common.{◌≡◌, refl, sym, ap, ◌∙◌, subst, ℕ, ◌+◌, ◌<◌, ◌≤◌, Bool, true, false, List, [], ◌∷◌, ◌++◌, length, map, arith, Some, slice_get}
+use Rattle.std.proofs.Common.{◌≡◌, sym, ap, subst, ℕ, ◌+◌, ◌<◌, ◌≤◌, ◌⊎◌, inl, inr, Bool, true, false, List, [], length, map, arith, Result, Ok, Err, MatchResult}
 use Rattle.shade_base.specs.declared.place.Place.{Place}
 use Rattle.shade_ast.specs.declared.expr.Infix.{Infix as InfixOperator}
 use Rattle.shade_ast.specs.declared.expr.Prefix.{Prefix as PrefixOperator}
-use Rattle.shade_ast.specs.declared.expr.Expr.{Expr}
 use Rattle.shade_ast.specs.declared.expr.ExprKind.TheVariants as kind
 use Rattle.shade_ast.specs.Lexemes.{Lexeme}
 use Rattle.shade_ast.specs.Names.{Grows}
-use Rattle.shade_ast.specs.Shapes.{ExprShape, infixed, prefixed, index, member, call, template, paren, place_of}
-use Rattle.shade_ast.specs.Shaped.{expr_shape, expr_shapes}
-use Rattle.shade_ast.specs.Needs.{most_of, expr_needs}
-use Rattle.shade_ast.specs.Nodes.{joined_of, expr_nodes, CountFrom}
+use Rattle.shade_ast.specs.Shapes.{ExprShape, infixed, prefixed, place_of}
+use Rattle.shade_ast.specs.Shaped.{expr_shape}
+use Rattle.shade_ast.specs.Needs.{expr_needs}
+use Rattle.shade_ast.specs.Nodes.{expr_nodes}
+use Rattle.shade_ast.specs.Expressions.{Relational, Unary}
 use Rattle.shade_ast.specs.Reads.{Reads, Fails}
-use Rattle.shade_ast.proofs.Stages.{Stage}
+use Rattle.shade_ast.proofs.Stages.{Stage, begin}
 use Rattle.shade_ast.proofs.Tails.{Tail, Leftward, left_first}
-use Rattle.shade_ast.proofs.ShapeLaws.{expr_grows, grows_trans}
+use Rattle.shade_ast.proofs.ShapeLaws.{grows_here, grows_trans}
 use Rattle.shade_parse_expr.specs.declared.part.Part.{Part}
-use Rattle.shade_parse_expr.specs.Parts.{Counted, ReadsTree}
-use Rattle.shade_parse_expr.specs.Rests.{is_bare}
+use Rattle.shade_parse_expr.specs.declared.part.Listing.{Listing}
+use Rattle.shade_parse_expr.specs.declared.part.Fault.{Fault}
+use Rattle.shade_parse_expr.specs.declared.part.Fault.TheVariants as fault
+use Rattle.shade_parse_expr.specs.Parts.{Counted, ReadsTree, ReadsList, Faults}
+use Rattle.shade_parse_expr.specs.declared.operators.Joint.{Joint}
+use Rattle.shade_parse_expr.specs.declared.operators.Joint.TheVariants as joint
+use Rattle.shade_parse_expr.specs.Rests.{is_bare, JoinPart, joint_rank}
 use Rattle.shade_parse_expr.proofs.Trees.{Tree, tree_of, reads_tree, tree_grows, tree_chain, counted_here, built_infix, built_prefix}
-use Rattle.shade_parse_expr.proofs.Turns.{Turn, stage_grows}
+use Rattle.shade_parse_expr.proofs.Turns.{Turn, stage_grows, fault_on, no_memory}
 
 -- the part that a function is handed
 pub here_tree : (names : List (List ℕ)) (p : Part) → expr_needs p.expr ≤ length names → p.bare ≡ is_bare (expr_shape names p.expr) → Tree names (expr_nodes p.expr) p.node p
@@ -38,6 +43,18 @@ module _ (G : ExprShape → List Lexeme → List Lexeme → Type 0) (n : ℕ) (t
       let k = built_prefix names prior node p r o at same b in
       let end : p.end ≡ r.end = ap (λ x. x.end) same in
       reads_tree G n tokens names prior from node p k.1 (subst (λ e. Reads G n tokens from (expr_shape names p.expr) e) (sym end) (subst (λ s. Reads G n tokens from s r.end) (sym k.0) x))
+
+-- the part that a loop begins with
+pub turn_here : (n : ℕ) (C : ExprShape → ExprShape → List Lexeme → List Lexeme → Type 0) (tokens : List Lexeme) (size : ℕ) (names : List (List ℕ)) (p : Part) → p.end ≤ length tokens → p.end ≤ size → expr_needs p.expr ≤ length names → p.bare ≡ is_bare (expr_shape names p.expr) → Turn (C (expr_shape names p.expr)) n C tokens size names names (expr_nodes p.expr) p.end p.node p.end p
+turn_here n C tokens size names p h within known bare = record {
+  stage = begin (C (expr_shape names p.expr)) n tokens p.end h;
+  tree = here_tree names p known bare;
+  grows = grows_here names;
+  past = omega arith;
+  within = within;
+  numbered = omega arith;
+  few = omega arith;
+}
 
 -- loops
 module _ (G B : ExprShape → List Lexeme → List Lexeme → Type 0) (At : Lexeme → ExprShape → ExprShape → List Lexeme → List Lexeme → Type 0) (n m : ℕ) (k : Leftward G B At n m) (tokens : List Lexeme) (size from : ℕ) (h : from ≤ length tokens) where
@@ -91,9 +108,49 @@ module _ (G : ExprShape → List Lexeme → List Lexeme → Type 0) (n : ℕ) (C
         few = omega arith;
       }
 
--- a part read as another production, and one that another function goes on with
+-- a part read as another production
 pub read_as : (G B : ExprShape → List Lexeme → List Lexeme → Type 0) (n m : ℕ) (tokens : List Lexeme) (names : List (List ℕ)) (prior : List ℕ) (from node : ℕ) (p : Part) → ReadsTree B m tokens names prior from node p → (Reads B m tokens from (expr_shape names p.expr) p.end → Reads G n tokens from (expr_shape names p.expr) p.end) → ReadsTree G n tokens names prior from node p
 read_as G B n m tokens names prior from node p x f = reads_tree G n tokens names prior from node p (tree_of B m tokens names prior from node p x) (f x.reads)
 
-pub read_on : (G B C : ExprShape → List Lexeme → List Lexeme → Type 0) (n m k : ℕ) (tokens : List Lexeme) (mid new : List (List ℕ)) (from node at : ℕ) (l p : Part) → ReadsTree B m tokens mid [] from node l → ReadsTree C k tokens new (expr_nodes l.expr) at l.node p → (Reads C k tokens at (expr_shape new p.expr) p.end → Reads G n tokens from (expr_shape new p.expr) p.end) → ReadsTree G n tokens new [] from node p
-read_on G B C n m k tokens mid new from node at l p a x f = reads_tree G n tokens new [] from node p (tree_chain new [] node l p a.nodes (tree_of C k tokens new (expr_nodes l.expr) at l.node p x)) (f x.reads)
+-- a tree of one token
+pub leaf_tree : (G : ExprShape → List Lexeme → List Lexeme → Type 0) (n : ℕ) (tokens : List Lexeme) (names : List (List ℕ)) (from node : ℕ) (p : Part) (s : ExprShape) → (expr_shape names p.expr ≡ s) × Tree names [] node p → p.end ≡ from + 1 → Reads G n tokens from s (from + 1) → ReadsTree G n tokens names [] from node p
+leaf_tree G n tokens names from node p s k end x = reads_tree G n tokens names [] from node p k.1 (subst (λ e. Reads G n tokens from (expr_shape names p.expr) e) (sym end) (subst (λ z. Reads G n tokens from z (from + 1)) (sym k.0) x))
+
+-- What a call answers that ends a function: it goes on with a part, it reads another production, or it builds a tree.
+pub goes_on : (G C : ExprShape → List Lexeme → List Lexeme → Type 0) (n k : ℕ) (tokens : List Lexeme) (first mid new : List (List ℕ)) (from node at : ℕ) (l : Part) (r : Result Part Fault) → length mid + from ≤ length first + at → Counted [] (expr_nodes l.expr) node l.node → ((e : ExprShape) (to : ℕ) → Reads C k tokens at e to → Reads G n tokens from e to) → ((to : ℕ) → Fails C k tokens at to → Fails G n tokens from to) → MatchResult r (λ p. ReadsTree C k tokens new (expr_nodes l.expr) at l.node p) (λ f. Faults C k tokens mid new at f) → MatchResult r (λ p. ReadsTree G n tokens new [] from node p) (λ f. Faults G n tokens first new from f)
+goes_on G C n k tokens first mid new from node at l (Ok p) few nodes reads fails x = reads_tree G n tokens new [] from node p (tree_chain new [] node l p nodes (tree_of C k tokens new (expr_nodes l.expr) at l.node p x)) (reads (expr_shape new p.expr) p.end x.reads)
+goes_on G C n k tokens first mid new from node at l (Err f) few nodes reads fails x = fault_on G C n k tokens first mid new from at f few fails x
+
+pub goes_as : (G B : ExprShape → List Lexeme → List Lexeme → Type 0) (n m : ℕ) (tokens : List Lexeme) (first new : List (List ℕ)) (from node : ℕ) (r : Result Part Fault) → ((e : ExprShape) (to : ℕ) → Reads B m tokens from e to → Reads G n tokens from e to) → ((to : ℕ) → Fails B m tokens from to → Fails G n tokens from to) → MatchResult r (λ p. ReadsTree B m tokens new [] from node p) (λ f. Faults B m tokens first new from f) → MatchResult r (λ p. ReadsTree G n tokens new [] from node p) (λ f. Faults G n tokens first new from f)
+goes_as G B n m tokens first new from node (Ok p) reads fails x = read_as G B n m tokens new [] from node p x (λ y. reads (expr_shape new p.expr) p.end y)
+goes_as G B n m tokens first new from node (Err f) reads fails x = fault_on G B n m tokens first first new from from f (omega arith) fails x
+
+pub lists_as : (G B : List ExprShape × Bool → List Lexeme → List Lexeme → Type 0) (n m : ℕ) (tokens : List Lexeme) (first new : List (List ℕ)) (from node : ℕ) (r : Result Listing Fault) → ((e : List ExprShape × Bool) (to : ℕ) → Reads B m tokens from e to → Reads G n tokens from e to) → ((to : ℕ) → Fails B m tokens from to → Fails G n tokens from to) → MatchResult r (λ p. ReadsList B m tokens new from node p) (λ f. Faults B m tokens first new from f) → MatchResult r (λ p. ReadsList G n tokens new from node p) (λ f. Faults G n tokens first new from f)
+lists_as G B n m tokens first new from node (Ok p) reads fails x = record { reads = reads (map (expr_shape new) p.items, p.trailing) p.end x.reads; known = x.known; nodes = x.nodes }
+lists_as G B n m tokens first new from node (Err f) reads fails x = fault_on G B n m tokens first first new from from f (omega arith) fails x
+
+pub builds : (G : ExprShape → List Lexeme → List Lexeme → Type 0) (n : ℕ) (tokens : List Lexeme) (first new : List (List ℕ)) (prior : List ℕ) (from node : ℕ) (b : Part) (r : Result Part Fault) → length new + from ≤ length first + length tokens → ((p : Part) → p ≡ b → ReadsTree G n tokens new prior from node p) → MatchResult r (λ p. p ≡ b) (λ f. f ≡ fault.NoMemory) → MatchResult r (λ p. ReadsTree G n tokens new prior from node p) (λ f. Faults G n tokens first new from f)
+builds G n tokens first new prior from node b (Ok p) few tree same = tree p same
+builds G n tokens first new prior from node b (Err f) few tree same = no_memory G n tokens first new from f same few
+
+-- what stands on the right of an operator that joins
+abbrev PartAnswers : List Lexeme → List (List ℕ) → List (List ℕ) → ℕ → ℕ → Result Part Fault → Joint → Type 0
+PartAnswers tokens first new from node r j = MatchResult r (λ p. ReadsTree (JoinPart j) (joint_rank j) tokens new [] from node p) (λ f. Faults (JoinPart j) (joint_rank j) tokens first new from f)
+
+module _ (tokens : List Lexeme) (first new : List (List ℕ)) (from node : ℕ) (r : Result Part Fault) (j : Joint) where
+  pub relation_part : (j ≡ joint.Or) ⊎ (j ≡ joint.And) → MatchResult r (λ p. ReadsTree Relational 6 tokens new [] from node p) (λ f. Faults Relational 6 tokens first new from f) → MatchResult r (λ p. ReadsTree (JoinPart j) (joint_rank j) tokens new [] from node p) (λ f. Faults (JoinPart j) (joint_rank j) tokens first new from f)
+  relation_part is x =
+      elim is [
+        | inl e ↦ subst (PartAnswers tokens first new from node r) (sym e) x
+        | inr e ↦ subst (PartAnswers tokens first new from node r) (sym e) x
+      ]
+
+  pub operand_part : (j ≡ joint.BitAnd) ⊎ ((j ≡ joint.BitOr) ⊎ (j ≡ joint.BitXor)) → MatchResult r (λ p. ReadsTree Unary 2 tokens new [] from node p) (λ f. Faults Unary 2 tokens first new from f) → MatchResult r (λ p. ReadsTree (JoinPart j) (joint_rank j) tokens new [] from node p) (λ f. Faults (JoinPart j) (joint_rank j) tokens first new from f)
+  operand_part is x =
+      elim is [
+        | inl e ↦ subst (PartAnswers tokens first new from node r) (sym e) x
+        | inr k ↦ (elim k [
+          | inl e ↦ subst (PartAnswers tokens first new from node r) (sym e) x
+          | inr e ↦ subst (PartAnswers tokens first new from node r) (sym e) x
+        ])
+      ]

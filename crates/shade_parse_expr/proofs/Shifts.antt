@@ -1,21 +1,21 @@
 -- Shifts and comparisons, step by step.
-use Rattle.std.proofs.Common.{◌≡◌, refl, sym, ap, ◌∙◌, subst, ℕ, ◌+◌, ◌<◌, ◌≤◌, ◌⊎◌, inl, inr, Bool, true, false, Option, None, Some, List, [], ◌∷◌, ◌++◌, length, drop, arith, slice_get}
+use Rattle.std.proofs.Common.{◌≡◌, refl, sym, ap, ◌∙◌, subst, ℕ, ◌+◌, ◌<◌, ◌≤◌, true, None, Some, List, [], ◌∷◌, ◌++◌, length, drop, arith, slice_get}
 use Rattle.shade_base.specs.declared.place.Place.{Place}
 use Rattle.shade_ast.specs.declared.lexeme.Sign.TheVariants as sign
 use Rattle.shade_ast.specs.declared.expr.Infix.{Infix as InfixOperator}
 use Rattle.shade_ast.specs.declared.expr.Infix.TheVariants as between
 use Rattle.shade_ast.specs.Lexemes.{Lexeme, Word, Mark, Adjacent}
 use Rattle.shade_ast.specs.Shapes.{ExprShape, infixed, named, place_of}
-use Rattle.shade_ast.specs.Expressions.{Additive, multiplicative, unary, operand, primary, typed, plain_type, Relational, Shift, additive, Unary}
+use Rattle.shade_ast.specs.Expressions.{Additive, Relational, Shift, Unary}
 use Rattle.shade_ast.specs.Reads.{Near, Reads, Fails, rank, rank_of}
-use Rattle.shade_ast.proofs.Stages.{Stage, After, Then, Ends, Closes, near_append, near_get, one_token, begin, change, consume, consume_then, phrase, phrase_fails, finish, finish_ends, ends_stops, stuck, closes_end, closes_after}
-use Rattle.shade_ast.proofs.Firsts.{First, BeginsExpr, first_is, shift_first}
+use Rattle.shade_ast.proofs.Stages.{Stage, After, Then, Ends, Closes, near_append, near_get, one_token, begin, change, consume, consume_then, phrase, phrase_fails, finish, finish_ends, ends_stops, stuck, closes_end}
+use Rattle.shade_ast.proofs.Firsts.{First, BeginsExpr, shift_first}
 use Rattle.shade_ast.proofs.Placed.{some_place}
 use Rattle.shade_parse_expr.specs.Operators.{found, relation_of, Behind, ComparisonAt, one_token as one_sign, two_tokens, ShiftAt, to_left, to_right}
 use Rattle.shade_parse_expr.specs.Rests.{is_bare, Comparison, plain, greater_equal, Compared, not_compared, compared, Shifting, leftwards, rightwards, Shifted, not_shifted, shifted}
 use Rattle.shade_parse_expr.proofs.Tokens.{pair, op_one, Told, told, untold}
 use Rattle.shade_parse_expr.proofs.Layers.{shift_there, shift_back, comparison_there, comparison_back}
-use Rattle.shade_parse_expr.proofs.Ranks.{after_place, shift_closes, unary_closes, compared_stops, shifted_stops, relation_rank, some_unary, some_shift, take_left, take_right}
+use Rattle.shade_parse_expr.proofs.Ranks.{after_place, compared_stops, shifted_stops, relation_rank, some_unary, some_shift, take_left, take_right}
 use Rattle.shade_parse_expr.proofs.Chains.{then_reads, then_fails, then_reads_by, then_fails_by}
 
 -- the token that stands first in what is near

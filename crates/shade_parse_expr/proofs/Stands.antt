@@ -1,5 +1,5 @@
 -- Operators where they stand.
-use Rattle.std.proofs.Common.{◌≡◌, refl, sym, ap, ◌∙◌, subst, ℕ, ◌+◌, ◌≤◌, Option, None, Some, List, ◌∷◌, arith, slice_get}
+use Rattle.std.proofs.Common.{◌≡◌, sym, ap, ◌∙◌, subst, ◌≤◌, Option, None, Some, List, arith}
 use Rattle.shade_base.specs.declared.place.Place.{Place}
 use Rattle.shade_ast.specs.declared.lexeme.Sign.TheVariants as sign
 use Rattle.shade_ast.specs.declared.expr.Infix.{Infix as InfixOperator}
@@ -10,7 +10,7 @@ use Rattle.shade_ast.specs.Expressions.{Unary, Multiplicative}
 use Rattle.shade_ast.specs.Reads.{rank_of}
 use Rattle.shade_ast.proofs.Tails.{Infix}
 use Rattle.shade_ast.proofs.LeftLaws.{Factor, Term}
-use Rattle.shade_parse_expr.specs.Operators.{found, factor_of, term_of, relation_of, Behind, ComparisonAt, one_token, two_tokens}
+use Rattle.shade_parse_expr.specs.Operators.{found, factor_of, term_of, relation_of}
 use Rattle.shade_parse_expr.proofs.Tokens.{Told, told, pair, op_one}
 
 relation_greater : (t : Lexeme) (p : Place) → relation_of t ≡ Some (between.Greater, p) → t ≡ Mark sign.Greater p

@@ -1,9 +1,13 @@
 -- Tokens where they stand.
-use Rattle.std.proofs.Common.{◌≡◌, ◌↔◌, refl, sym, ap, ◌∙◌, subst, Bool, true, false, IsTrue, Option, None, Some, List}
+use Rattle.std.proofs.Common.{◌≡◌, ℕ, ◌≤◌, List, length, arith, ◌↔◌, refl, sym, ap, ◌∙◌, true, false, IsTrue, Option, None, Some, MatchOption}
+use Rattle.std.specs.Prelude.{is_some}
+use Rattle.std.proofs.lemmas.List.{length-map}
 use Rattle.shade_base.specs.declared.place.Place.{Place}
 use Rattle.shade_ast.specs.declared.lexeme.Sign.{Sign}
 use Rattle.shade_ast.specs.declared.expr.Infix.{Infix as InfixOperator}
-use Rattle.shade_ast.specs.Lexemes.{Lexeme, Word, Key, Number, Mark, Stray}
+use Rattle.shade_ast.specs.Lexemes.{Lexeme, Mark}
+use Rattle.shade_parse_expr.specs.declared.piece.Piece.{Piece}
+use Rattle.shade_parse_expr.specs.Shown.{lexeme, lexemes}
 use Rattle.shade_parse_expr.specs.Operators.{found, mark_of}
 
 pub some_one : {A : Type 0} (x y : A) → Some x ≡ Some y → x ≡ y
@@ -37,11 +41,21 @@ sign_stands m u s p e same =
     let t : Told mark_of m (u, p) = told mark_of m (u, p) e in
     t.stands ∙ ap Some (sign_told t.token u p t.tells ∙ ap (λ x. Mark x p) same)
 
-pub sign_none : (m : Option Lexeme) (s : Sign) (p : Place) → None ≡ found mark_of m → m ≡ Some (Mark s p) → ⊥
-sign_none m s p none is = let bad : Some (s, p) ≡ None = untold mark_of m (Mark s p) none is in cc
-
 pub sign_other : (m : Option Lexeme) (u s : Sign) (q p : Place) → Some (u, q) ≡ found mark_of m → (u ≡ s → ⊥) → m ≡ Some (Mark s p) → ⊥
 sign_other m u s q p e differs is = differs (let both : Some (u, q) ≡ Some (s, p) = e ∙ ap (λ x. found mark_of x) is in let x : Sign × Place = (u, q) in let y : Sign × Place = (s, p) in let same : x ≡ y = some_one x y both in ap (λ z. z.0) same)
 
 pub isnt : {P : Type 0} → IsTrue false ↔ P → P → ⊥
 isnt e p = let bad : false ≡ true = e.1 p in cc
+
+-- what is told by an option, once it is known whether it has a value
+pub told_none : {A : Type 0} (o : Option A) (P : Type 0) (Q : A → Type 0) → is_some o ≡ false → MatchOption o P Q → P
+told_none None P Q e m = m
+told_none (Some x) P Q e m = absurd (let bad : true ≡ false = e in cc)
+
+pub told_some : {A : Type 0} (o : Option A) (P : Type 0) (Q : A → Type 0) → is_some o ≡ true → MatchOption o P Q → (x : A) × Q x
+told_some None P Q e m = absurd (let bad : false ≡ true = e in cc)
+told_some (Some x) P Q e m = (x, m)
+
+-- a place among the pieces is one among the tokens
+pub shown_within : (pieces : List Piece) (at : ℕ) → at ≤ length pieces → at ≤ length (lexemes pieces)
+shown_within pieces at within = omega (arith, length-map pieces lexeme, within)

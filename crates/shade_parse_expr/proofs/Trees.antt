@@ -2,14 +2,16 @@
 use Rattle.std.proofs.Common.{◌≡◌, refl, sym, ap, ◌∙◌, subst, ℕ, ◌+◌, ◌<◌, ◌≤◌, max, Bool, true, false, List, [], ◌∷◌, ◌++◌, length, map, arith, append_assoc, Some, slice_get}
 use Rattle.std.specs.Prelude.{slice_index_or}
 use Rattle.std.proofs.lemmas.List.{append-nil}
-use Rattle.std.proofs.lemmas.Option.{slice_get_within, get_or_from_slice_get}
+use Rattle.std.proofs.Common.{get_or}
+use Rattle.std.proofs.lemmas.List.{get_or_append_left}
+use Rattle.std.proofs.lemmas.Option.{slice_get_within, get_or_from_slice_get, slice_get-get_or}
 use Rattle.shade_base.specs.declared.place.Place.{Place}
 use Rattle.shade_lex.specs.declared.token.Suffix.{Suffix}
 use Rattle.shade_ast.specs.declared.expr.Infix.{Infix as InfixOperator}
 use Rattle.shade_ast.specs.declared.expr.Prefix.{Prefix as PrefixOperator}
 use Rattle.shade_ast.specs.declared.expr.Named.{Named}
 use Rattle.shade_ast.specs.declared.expr.Expr.{Expr}
-use Rattle.shade_ast.specs.declared.expr.ExprKind.{ExprKind, ExprKind-F, out-ExprKind, map-ExprKind, fold-ExprKind, fold_out-ExprKind}
+use Rattle.shade_ast.specs.declared.expr.ExprKind.{ExprKind, ExprKind-F, out-ExprKind, map-ExprKind, fold_out-ExprKind}
 use Rattle.shade_ast.specs.declared.expr.ExprKind.TheVariants as kind
 use Rattle.shade_ast.specs.declared.expr.ExprKind.TheOpen as open_kind
 use Rattle.shade_ast.specs.Lexemes.{Lexeme}
@@ -18,10 +20,10 @@ use Rattle.shade_ast.specs.Shapes.{ExprShape, infixed, prefixed, member, index, 
 use Rattle.shade_ast.specs.Shaped.{expr_shapes, kind_step, expr_step, expr_shape}
 use Rattle.shade_ast.specs.Needs.{most_of, expr_needs}
 use Rattle.shade_ast.specs.Nodes.{joined_of, expr_nodes, CountFrom}
-use Rattle.shade_ast.specs.Reads.{Reads, Fails}
+use Rattle.shade_ast.specs.Reads.{Reads}
 use Rattle.shade_ast.proofs.ExprLayers.{kind_shape, kind_count, expr_is, expr_count, shape-Infix, shape-Prefix, shape-Member, shape-Index, shape-Call, shape-Template, shape-Name, shape-Number, shape-True, shape-False, shape-Paren, needs-Infix, needs-Prefix, needs-Member, needs-Index, needs-Call, needs-Template, needs-Name, needs-Number, needs-True, needs-False, needs-Paren}
 use Rattle.shade_ast.proofs.ExprNodes.{kind_numbers, expr_numbers, nodes-Infix, nodes-Prefix, nodes-Member, nodes-Index, nodes-Call, nodes-Template, nodes-Name, nodes-Number, nodes-True, nodes-False, nodes-Paren}
-use Rattle.shade_ast.proofs.ShapeLaws.{expr_grows, list_grows, length_grows, grows_trans}
+use Rattle.shade_ast.proofs.ShapeLaws.{expr_grows, length_grows}
 use Rattle.shade_parse_expr.specs.declared.part.Part.{Part}
 use Rattle.shade_parse_expr.specs.Rests.{is_bare}
 use Rattle.shade_parse_expr.specs.Parts.{Counted, ReadsTree}
@@ -45,6 +47,14 @@ place_same names e =
     ap place_of (expr_is names e)
     ∙ ap (λ f. place_of (f e.place)) (fold_out-ExprKind (Place → ExprShape) ExprShape (kind_step names) expr_step e.kind)
     ∙ step_place names (map-ExprKind ExprKind Expr (Place → ExprShape) ExprShape (kind_shape names) (expr_shape names) (out-ExprKind e.kind)) e.place
+
+-- a name keeps its number
+pub name_stays : (old new : List (List ℕ)) (name : ℕ) (text : List ℕ) → slice_get old name ≡ Some text → Grows old new → slice_get new name ≡ Some text
+name_stays old new name text stored g =
+    let lt : name < length old = slice_get_within old name text stored in
+    let le : length old ≤ length new = length_grows old new g in
+    let same : get_or new name text ≡ text = ap (λ x. get_or x name text) g.1 ∙ get_or_append_left old g.0 text name lt ∙ get_or_from_slice_get old name text text stored in
+    slice_get-get_or new name text (omega arith) ∙ ap Some same
 
 -- counts
 pub count_join : (xs ys : List ℕ) (a b c : ℕ) → CountFrom a xs b → CountFrom b ys c → CountFrom a (xs ++ ys) c

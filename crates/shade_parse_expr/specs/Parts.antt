@@ -1,8 +1,6 @@
 -- What a function of the parser answers: the phrase that it read, with its nodes and names numbered.
 use Rattle.std.specs.Prelude.{◌≡◌, ℕ, ◌+◌, ◌≤◌, Bool, List, ◌++◌, length, map}
-use Rattle.shade_ast.specs.declared.lexeme.Sign.{Sign}
-use Rattle.shade_ast.specs.declared.expr.Expr.{Expr}
-use Rattle.shade_ast.specs.Lexemes.{Lexeme, Mark}
+use Rattle.shade_ast.specs.Lexemes.{Lexeme}
 use Rattle.shade_ast.specs.Shapes.{ExprShape}
 use Rattle.shade_ast.specs.Shaped.{expr_shape}
 use Rattle.shade_ast.specs.Needs.{most_of, expr_needs}

@@ -1,4 +1,4 @@
-use Rattle.std.proofs.Common.{◌≡◌, sym, rules}
+use Rattle.std.proofs.Common.{sym, rules}
 use denote.Enum.Bare.{differs_true, differs_false}
 use Rattle.shade_ast.specs.contracts.expr.Infix.{the_type}
 use Rattle.shade_parse_expr.specs.Operators.{one_token, two_tokens}

@@ -1,4 +1,4 @@
-use Rattle.std.proofs.Common.{◌≡◌, refl, sym, rules}
+use Rattle.std.proofs.Common.{refl, rules}
 use Rattle.shade_parse_expr.specs.Operators.{to_left, to_right}
 use Rattle.shade_parse_expr.proofs.operators.shift_at.Goals as goal
 

@@ -1,7 +1,7 @@
-use Rattle.std.proofs.Common.{◌≡◌, sym, rules}
+use Rattle.std.proofs.Common.{sym, rules}
 use denote.Enum.Bare.{same_true, same_false}
 use Rattle.shade_ast.specs.contracts.lexeme.Sign.{the_type}
-use Rattle.shade_parse_expr.proofs.Tokens.{sign_stands, sign_none, sign_other}
+use Rattle.shade_parse_expr.proofs.Tokens.{sign_stands, sign_other}
 use Rattle.shade_parse_expr.proofs.piece.mark_at.Goals as goal
 
 pub returns-then-eq-clause-value : goal.returns-then-eq-clause-value
