@@ -7,7 +7,7 @@ use Rattle.shade_ast.specs.Reads.{Near, Reads, Fails, rank, rank_of}
 use Rattle.shade_ast.proofs.Stages.{Stage, After, Ends, Closes, one_token, begin, change, finish, phrase_or, phrase_or_fails}
 
 -- the tokens of what was read begin with the token at its place
-first_read : (tokens us : List Lexeme) (at to : ℕ) (t : Lexeme) → at < to → to ≤ length tokens → drop at tokens ≡ us ++ drop to tokens → slice_get tokens at ≡ Some t → (vs : List Lexeme) × (us ≡ t ∷ vs)
+pub first_read : (tokens us : List Lexeme) (at to : ℕ) (t : Lexeme) → at < to → to ≤ length tokens → drop at tokens ≡ us ++ drop to tokens → slice_get tokens at ≡ Some t → (vs : List Lexeme) × (us ≡ t ∷ vs)
 first_read tokens [] at to t lt high spelled is = absurd (shorter tokens at to lt high spelled)
   where
     shorter : (l : List Lexeme) (i j : ℕ) → i < j → j ≤ length l → drop i l ≡ drop j l → ⊥

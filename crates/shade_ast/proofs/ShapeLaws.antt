@@ -63,7 +63,7 @@ module _ (names more : List (List ℕ)) where
   text_same : (n : ℕ) → n + 1 ≤ length names → slice_index_or (names ++ more) n [] ≡ slice_index_or names n []
   text_same n h = get_or_append_left names more [] n (omega arith)
 
-  named_same : (n : Named) → Same named_needs name_shape n
+  pub named_same : (n : Named) → Same named_needs name_shape n
   named_same n h = λ i. record { place = n.place; text = text_same n.name h i }
 
   abbrev SameKind : ExprKind → Type 0
@@ -107,41 +107,41 @@ module _ (names more : List (List ℕ)) where
       (λ x y is h. fold-roll-Expr _ _ (kind_step (names ++ more)) expr_step x ∙ subst SameExprLayer is (expr_case y) (subst (λ k. k ≤ length names) (fold-roll-Expr ℕ ℕ kind_needs expr_layer_needs x) h) ∙ sym (fold-roll-Expr _ _ (kind_step names) expr_step x))
 
   -- of what each has by itself
-  all_same : {A B : Type 0} (needs : A → ℕ) (shape : List (List ℕ) → A → B) → ((a : A) → Same needs shape a) → (l : List A) → Same (most_of needs) (λ ns. map (shape ns)) l
+  pub all_same : {A B : Type 0} (needs : A → ℕ) (shape : List (List ℕ) → A → B) → ((a : A) → Same needs shape a) → (l : List A) → Same (most_of needs) (λ ns. map (shape ns)) l
   all_same needs shape same [] h = refl
   all_same needs shape same (a ∷ l) h = λ i. same a (omega arith) i ∷ all_same needs shape same l (omega arith) i
 
-  maybe_same : {A B : Type 0} (needs : A → ℕ) (shape : List (List ℕ) → A → B) → ((a : A) → Same needs shape a) → (o : Option A) → Same (maybe_of needs) (λ ns. option_map (shape ns)) o
+  pub maybe_same : {A B : Type 0} (needs : A → ℕ) (shape : List (List ℕ) → A → B) → ((a : A) → Same needs shape a) → (o : Option A) → Same (maybe_of needs) (λ ns. option_map (shape ns)) o
   maybe_same needs shape same None h = refl
   maybe_same needs shape same (Some a) h = λ i. Some (same a h i)
 
-  attr_name_same : (n : AttrName) → Same attr_name_needs attr_name_shape n
+  pub attr_name_same : (n : AttrName) → Same attr_name_needs attr_name_shape n
   attr_name_same (attr.Name n) h = λ i. attr_name (named_same n h i)
   attr_name_same (attr.Diagnostic place) h = refl
   attr_name_same (attr.Const place) h = refl
 
-  arguments_same : (a : Arguments) → Same arguments_need arguments_shape a
+  pub arguments_same : (a : Arguments) → Same arguments_need arguments_shape a
   arguments_same a h = λ i. (expr_shapes (all_same expr_needs expr_shape expr_same a.items h i), a.trailing)
 
-  attr_same : (a : Attr) → Same attr_needs attr_shape a
+  pub attr_same : (a : Attr) → Same attr_needs attr_shape a
   attr_same a h = λ i. record { place = a.place; name = attr_name_same a.name (omega arith) i; arguments = maybe_same arguments_need arguments_shape arguments_same a.arguments (omega arith) i }
 
-  attrs_same : (l : List Attr) → Same attrs_need attr_shapes l
+  pub attrs_same : (l : List Attr) → Same attrs_need attr_shapes l
   attrs_same l h = all_same attr_needs attr_shape attr_same l h
 
-  maybe_expr_same : (o : Option Expr) → Same (maybe_of expr_needs) (λ ns. option_map (expr_shape ns)) o
+  pub maybe_expr_same : (o : Option Expr) → Same (maybe_of expr_needs) (λ ns. option_map (expr_shape ns)) o
   maybe_expr_same o h = maybe_same expr_needs expr_shape expr_same o h
 
-  var_space_same : (s : VarSpace) → Same var_space_needs var_space_shape s
+  pub var_space_same : (s : VarSpace) → Same var_space_needs var_space_shape s
   var_space_same s h = λ i. record { space = named_same s.space (omega arith) i; access = maybe_same named_needs name_shape named_same s.access (omega arith) i; trailing = s.trailing }
 
-  var_same : (v : Var) → Same var_needs var_shape v
+  pub var_same : (v : Var) → Same var_needs var_shape v
   var_same v h = λ i. record { place = v.keyword; space = maybe_same var_space_needs var_space_shape var_space_same v.space (omega arith) i; name = named_same v.name (omega arith) i; ty = maybe_expr_same v.ty (omega arith) i; value = maybe_expr_same v.value (omega arith) i }
 
-  binding_same : (b : Binding) → Same binding_needs binding_shape b
+  pub binding_same : (b : Binding) → Same binding_needs binding_shape b
   binding_same b h = λ i. record { place = b.keyword; name = named_same b.name (omega arith) i; ty = maybe_expr_same b.ty (omega arith) i; value = expr_same b.value (omega arith) i }
 
-  update_same : (u : Update) → Same update_needs update_shape u
+  pub update_same : (u : Update) → Same update_needs update_shape u
   update_same (update.Assign target at value) h = λ i. assign (expr_same target (omega arith) i) at (expr_same value (omega arith) i)
   update_same (update.Compound target operator at value) h = λ i. compound (expr_same target (omega arith) i) operator at (expr_same value (omega arith) i)
   update_same (update.Phony underscore at value) h = λ i. phony underscore at (expr_same value h i)
@@ -149,17 +149,17 @@ module _ (names more : List (List ℕ)) where
   update_same (update.Decrement target at) h = λ i. decrement (expr_same target h i) at
   update_same (update.Call e) h = λ i. call_alone (expr_same e h i)
 
-  simple_same : (s : Simple) → Same simple_needs simple_shape s
+  pub simple_same : (s : Simple) → Same simple_needs simple_shape s
   simple_same (simple.Var v) h = λ i. var_simple (var_same v h i)
   simple_same (simple.Const b) h = λ i. const_simple (binding_same b h i)
   simple_same (simple.Let b) h = λ i. let_simple (binding_same b h i)
   simple_same (simple.Update u) h = λ i. update_simple (update_same u h i)
 
-  selector_same : (s : Selector) → Same selector_needs selector_shape s
+  pub selector_same : (s : Selector) → Same selector_needs selector_shape s
   selector_same (selector.Default place) h = refl
   selector_same (selector.Value e) h = λ i. value_selector (expr_same e h i)
 
-  break_if_same : (b : BreakIf) → Same break_if_needs break_if_shape b
+  pub break_if_same : (b : BreakIf) → Same break_if_needs break_if_shape b
   break_if_same b h = λ i. record { break_place = b.break_keyword; if_place = b.if_keyword; condition = expr_same b.condition h i }
 
   abbrev SameClause : Clause → Type 0
@@ -283,10 +283,10 @@ module _ (names more : List (List ℕ)) where
       (λ x y is h. fold-roll-Otherwise _ _ _ _ _ _ _ (clause_step (names ++ more)) (stmt_kind_step (names ++ more)) (arm_step (names ++ more)) (block_step (names ++ more)) (continuing_step (names ++ more)) otherwise_step stmt_step x ∙ subst SameOtherwiseLayer is (otherwise_case y) (subst (λ k. k ≤ length names) (fold-roll-Otherwise ℕ ℕ ℕ ℕ ℕ ℕ ℕ clause_needs stmt_kind_needs arm_needs block_layer_needs continuing_needs otherwise_needs stmt_layer_needs x) h) ∙ sym (fold-roll-Otherwise _ _ _ _ _ _ _ (clause_step names) (stmt_kind_step names) (arm_step names) (block_step names) (continuing_step names) otherwise_step stmt_step x))
       (λ x y is h. fold-roll-Stmt _ _ _ _ _ _ _ (clause_step (names ++ more)) (stmt_kind_step (names ++ more)) (arm_step (names ++ more)) (block_step (names ++ more)) (continuing_step (names ++ more)) otherwise_step stmt_step x ∙ subst SameStmtLayer is (stmt_case y) (subst (λ k. k ≤ length names) (fold-roll-Stmt ℕ ℕ ℕ ℕ ℕ ℕ ℕ clause_needs stmt_kind_needs arm_needs block_layer_needs continuing_needs otherwise_needs stmt_layer_needs x) h) ∙ sym (fold-roll-Stmt _ _ _ _ _ _ _ (clause_step names) (stmt_kind_step names) (arm_step names) (block_step names) (continuing_step names) otherwise_step stmt_step x))
 
-  member_same : (m : Member) → Same member_needs member_shape m
+  pub member_same : (m : Member) → Same member_needs member_shape m
   member_same m h = λ i. record { place = m.place; attrs = attrs_same m.attrs (omega arith) i; name = named_same m.name (omega arith) i; ty = expr_same m.ty (omega arith) i }
 
-  result_same : (r : FnResult) → Same result_needs result_shape r
+  pub result_same : (r : FnResult) → Same result_needs result_shape r
   result_same r h = λ i. record { attrs = attrs_same r.attrs (omega arith) i; ty = expr_same r.ty (omega arith) i }
 
   decl_kind_same : (place : Place) (k : DeclKind) → Same decl_kind_needs (λ ns. decl_kind_shape ns place) k
@@ -302,7 +302,7 @@ module _ (names more : List (List ℕ)) where
   pub decl_same : (d : Decl) → Same decl_needs decl_shape d
   decl_same d h = decl_kind_same d.place d.kind h
 
-  rule_same : (r : Rule) → Same rule_needs rule_shape r
+  pub rule_same : (r : Rule) → Same rule_needs rule_shape r
   rule_same (rule.Plain name) h = λ i. plain_rule (named_same name h i)
   rule_same (rule.Scoped scope dot name) h = λ i. scoped_rule (named_same scope (omega arith) i) dot (named_same name (omega arith) i)
 

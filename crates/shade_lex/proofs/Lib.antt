@@ -9,3 +9,4 @@ pub mod OnceLaws
 pub mod ScanLaws
 pub mod ScanSteps
 pub mod ScanNext
+pub mod PairLaws

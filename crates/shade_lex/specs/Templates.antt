@@ -146,3 +146,7 @@ pub record AreTemplates (text : List ℕ) (tokens : List Token) (pairs : List (�
   pub closers : List (Option ℕ)
   pub exact : AreClosers (roles_from text None tokens) closers
   pub are : pairs ≡ pairs_from tokens 0 closers
+
+-- Tokens have at most one list of template lists.
+abbrev pub HaveOneReading : List ℕ → List Token → Type 0
+HaveOneReading text tokens = (pairs others : List (ℕ × ℕ)) → AreTemplates text tokens pairs → AreTemplates text tokens others → pairs ≡ others

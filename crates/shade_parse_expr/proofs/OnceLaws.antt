@@ -2,7 +2,6 @@
 use Rattle.std.proofs.Common.{◌≡◌, refl, sym, ap, ◌∙◌, subst, ℕ, zero, suc, ◌+◌, ◌-◌, ◌<◌, ◌≤◌, ◌⊎◌, inl, inr, List, [], ◌++◌, length, take, drop, arith, append_assoc, slice_range}
 use Rattle.std.proofs.lemmas.List.{take-append-drop}
 use Rattle.shade_ast.specs.Lexemes.{Lexeme}
-use Rattle.shade_ast.specs.Shapes.{ExprShape}
 use Rattle.shade_ast.specs.Shaped.{expr_shape}
 use Rattle.shade_ast.specs.Places.{Begins, IsStop}
 use Rattle.shade_parse_expr.specs.declared.goal.Goal.{Goal}
@@ -11,13 +10,19 @@ use Rattle.shade_parse_expr.specs.Once.{IsAnsweredOnce}
 use Rattle.shade_parse_expr.proofs.AnswerLaws.{take_take}
 
 -- two numbers of which neither is less
-trichotomy : (a b : ℕ) → (a < b → ⊥) → (b < a → ⊥) → a ≡ b
+pub trichotomy : (a b : ℕ) → (a < b → ⊥) → (b < a → ⊥) → a ≡ b
 trichotomy zero zero f g = refl
 trichotomy zero (suc b) f g = absurd (f (omega arith))
 trichotomy (suc a) zero f g = absurd (g (omega arith))
 trichotomy (suc a) (suc b) f g = ap suc (trichotomy a b (λ lt. f (omega arith)) (λ lt. g (omega arith)))
 
-module _ (G : ExprShape → List Lexeme → List Lexeme → Type 0) (tokens : List Lexeme) (from : ℕ) where
+-- a number is less than another, or not
+pub less_or : (a b : ℕ) → (a < b) ⊎ (b ≤ a)
+less_or a zero = inr (omega arith)
+less_or zero (suc b) = inl (omega arith)
+less_or (suc a) (suc b) = elim (less_or a b) [ inl l ↦ inl (omega arith) | inr l ↦ inr (omega arith) ]
+
+module _ {R : Type 0} (G : R → List Lexeme → List Lexeme → Type 0) (tokens : List Lexeme) (from : ℕ) where
   -- a beginning of a beginning
   shorter : (k q : ℕ) → k ≤ q → Begins G (slice_range tokens from q) → Begins G (slice_range tokens from k)
   shorter k q le b =
@@ -29,13 +34,13 @@ module _ (G : ExprShape → List Lexeme → List Lexeme → Type 0) (tokens : Li
       )
 
   -- what begins with the tokens up to one has not stopped there
-  not_past : (stop k : ℕ) → IsStop G tokens from stop → k < length tokens → Begins G (slice_range tokens from (k + 1)) → stop ≤ k → ⊥
+  pub not_past : (stop k : ℕ) → IsStop G tokens from stop → k < length tokens → Begins G (slice_range tokens from (k + 1)) → stop ≤ k → ⊥
   not_past stop k s lt b le = s.none (omega arith) (shorter (stop + 1) (k + 1) (omega arith) b)
 
   less : (a b : ℕ) → IsStop G tokens from a → IsStop G tokens from b → a < b → ⊥
   less a b s t lt = s.none (omega (arith, t.high)) (t.before (a + 1) (omega (arith, s.low)) (omega arith))
 
-  one_stop : (a b : ℕ) → IsStop G tokens from a → IsStop G tokens from b → a ≡ b
+  pub one_stop : (a b : ℕ) → IsStop G tokens from a → IsStop G tokens from b → a ≡ b
   one_stop a b s t = trichotomy a b (less a b s t) (less b a t s)
 
 -- no token before a stop is deep, and one is
@@ -45,11 +50,6 @@ deep_past goal tokens old new from stop at s shallow d = by (less_or at stop)
     by : (at < stop) ⊎ (stop ≤ at) → ⊥
     by (inl lt) = shallow at d.low lt d.deep
     by (inr le) = not_past (production goal) tokens from stop at s d.high d.begun le
-
-    less_or : (a b : ℕ) → (a < b) ⊎ (b ≤ a)
-    less_or a zero = inr (omega arith)
-    less_or zero (suc b) = inl (omega arith)
-    less_or (suc a) (suc b) = elim (less_or a b) [ inl l ↦ inl (omega arith) | inr l ↦ inr (omega arith) ]
 
 pub answered_once : (goal : Goal) (tokens : List Lexeme) (from : ℕ) → IsAnsweredOnce goal tokens from
 answered_once goal tokens from = record {

@@ -45,6 +45,10 @@ pub errs : {T : Type 0} (r : Result T Fault) (f : Fault) (P : T → Type 0) (Q :
 errs (Ok x) f P Q k q = absurd k
 errs (Err e) f P Q k q = subst Q (sym k) q
 
+pub answers : {T : Type 0} (r : Result T Fault) (P P2 : T → Type 0) (Q Q2 : Fault → Type 0) → ((x : T) → P x → P2 x) → ((f : Fault) → Q f → Q2 f) → MatchResult r P Q → MatchResult r P2 Q2
+answers (Ok x) P P2 Q Q2 p q m = p x m
+answers (Err e) P P2 Q Q2 p q m = q e m
+
 pub fault_on : {R S : Type 0} (G : R → List Lexeme → List Lexeme → Type 0) (B : S → List Lexeme → List Lexeme → Type 0) (n m : ℕ) (tokens : List Lexeme) (first mid new : List (List ℕ)) (from at : ℕ) (f : Fault) → length mid + from ≤ length first + at → ((to : ℕ) → Fails B m tokens at to → Fails G n tokens from to) → Faults B m tokens mid new at f → Faults G n tokens first new from f
 fault_on G B n m tokens first mid new from at (fault.Unexpected to) le k x = record { fails = k to x.fails; few = (let few : length new + at ≤ length mid + to = x.few in omega arith) }
 fault_on G B n m tokens first mid new from at fault.NoMemory le k x = omega arith

@@ -1,0 +1,22 @@
+//! Lists that grow by one item.
+
+ghost use Rattle.std.specs.Prelude.{◌≡◌, ◌++◌, ◌∷◌, [], MatchResult};
+
+use shade_base::Place;
+use shade_parse_expr::part::Fault;
+use sqlite_items::Items;
+
+/// Items with commas between them, whether a comma stands behind the last, and the place of the mark that closes them.
+#[derive(Drop)]
+pub struct ItemList<T> {
+    pub items: Items<T>,
+    pub trailing: bool,
+    pub close: Place,
+}
+
+/// One item more. Takes memory where the list is full; without it the answer is `NoMemory`.
+pub fn push<T: Drop>(items: &mut Items<T>, item: T) -> Result<(), Fault>
+    ensures { MatchResult result (λ u. items.new ≡ items.old ++ item ∷ []) (λ f. f ≡ Fault.NoMemory) }
+{
+    items.push(item).map_err(|_| Fault::NoMemory)
+}
