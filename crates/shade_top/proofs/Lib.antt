@@ -1,4 +1,6 @@
 mod OneAnswer
 mod ReadLaws
+mod ReadingLaws
 mod RunLaws
 mod ServeLaws
+mod TextLaws

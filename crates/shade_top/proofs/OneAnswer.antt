@@ -5,15 +5,22 @@ use Rattle.shade_core.specs.declared.module.CoreFunction.{CoreFunction}
 use Rattle.shade_verdict.specs.declared.violation.Violation.{Violation}
 use Rattle.shade_verdict.specs.Violations.{AreViolations}
 use Rattle.shade_verdict.specs.Laws.{OneVerdict}
-use Rattle.shade_first.specs.FirstForm.{StandsFor, LeavesAt}
+use Rattle.shade_first.specs.FirstForm.{StandsFor}
 use Rattle.shade_first.specs.Laws.{OneModule, OnePlace, NeverBoth}
 use Rattle.shade_group.specs.Group.{members_from, sized_members, entry_members, sized_runs, entry_runs, lane_count}
 use Rattle.shade_sound.specs.Laws.{FirstFormRuns}
 use Rattle.shade_job.specs.Steps.{States}
 use Rattle.shade_job.specs.Laws.{OneJob}
-use Rattle.shade_top.specs.Answer.{Answer, IsAnswer, no_form, answered, IsAnswerTo, check_unread, checked, run_unread, stopped, job_unread, run_, IsChecked, leaves, judged, IsRan, no_job, job, NoJob, Runs, bad_words, fault_read, refused_notyet, refused_job, verdict, inputs, lanes_of, ran, outcome}
+use Rattle.shade_top.specs.Answer.{Answer, IsAnswer, no_form, answered, IsAnswerTo, check_unread, checked, run_unread, stopped, job_unread, run_, IsChecked, refused, judged, IsRan, no_job, job, NoJob, Runs, bad_words, fault_read, refusal, refused_job, verdict, inputs, lanes_of, ran, outcome}
 use Rattle.shade_top.specs.Request.{Request, Check, Run, request_of}
 use Rattle.shade_top.specs.Laws.{OneAnswer}
+use Rattle.shade_top.specs.Text.{Refusal, IsRefused, Parses}
+use Rattle.shade_lex.specs.Tokens.{IsReadOnce}
+use Rattle.shade_lex.specs.declared.token.Token.{Token}
+use Rattle.shade_lex.specs.Templates.{HaveOneReading}
+use Rattle.shade_ast.specs.Lexemes.{Lexeme}
+use Rattle.shade_parse.specs.Once.{IsParsedOnce}
+use Rattle.shade_top.proofs.TextLaws.{one_refusal, never_refused}
 
 -- ---- the lanes of a run are few
 
@@ -33,12 +40,12 @@ few_entry (Some function) r = few_sized function function.entry r
 
 abbrev CheckedCases : List ℕ → Answer → Type 0
 CheckedCases bytes a =
-    ((offset : ℕ) × LeavesAt bytes offset × (a ≡ refused_notyet offset))
-    ⊎ ((m : CoreModule) × (vs : List Violation) × StandsFor bytes m × AreViolations m.functions vs × (a ≡ verdict m.functions vs))
+    ((why : Refusal) × IsRefused bytes why × (a ≡ refusal why))
+    ⊎ ((m : CoreModule) × (vs : List Violation) × StandsFor bytes m × AreViolations m.functions vs × (a ≡ verdict m.functions vs) × Parses bytes)
 
 checked_cases : {bytes : List ℕ} {a : Answer} → IsChecked bytes a → CheckedCases bytes a
-checked_cases (leaves {offset = offset} at) = inl (offset, at, refl)
-checked_cases (judged {checked = m} {violations = vs} stands are) = inr (m, vs, stands, are, refl)
+checked_cases (refused why is) = inl (why, is, refl)
+checked_cases (judged {checked = m} {violations = vs} parses stands are) = inr (m, vs, stands, are, refl, parses)
 
 abbrev RanCases : CoreModule → List ℕ → Answer → Type 0
 RanCases shader bytes a = (NoJob shader bytes × (a ≡ refused_job)) ⊎ ((steps : List ℕ) × States (lanes_of shader) bytes steps × (a ≡ outcome shader (ran shader steps)))
@@ -81,7 +88,7 @@ none_some asked request none some = let clash : None ≡ Some request = sym none
 one_request : (asked : Option Request) (a b : Request) → asked ≡ Some a → asked ≡ Some b → a ≡ b
 one_request asked a b e f = let same : Some a ≡ Some b = sym e ∙ f in cc
 
-module _ (modules : OneModule) (places : OnePlace) (both : NeverBoth) (verdicts : OneVerdict) (jobs : OneJob) (runnable : FirstFormRuns) where
+module _ (modules : OneModule) (places : OnePlace) (both : NeverBoth) (verdicts : OneVerdict) (jobs : OneJob) (runnable : FirstFormRuns) (reads : (text : List ℕ) → IsReadOnce text) (lists : (text : List ℕ) (tokens : List Token) → HaveOneReading text tokens) (trees : (tokens : List Lexeme) → IsParsedOnce tokens) where
   one_verdict : (bytes : List ℕ) (m n : CoreModule) (vs ws : List Violation) → StandsFor bytes m → StandsFor bytes n → AreViolations m.functions vs → AreViolations n.functions ws → verdict m.functions vs ≡ verdict n.functions ws
   one_verdict bytes m n vs ws sm sn am an =
       let same : m ≡ n = modules bytes m n sm sn in
@@ -89,9 +96,9 @@ module _ (modules : OneModule) (places : OnePlace) (both : NeverBoth) (verdicts 
       ap₂ (λ (k : CoreModule) (us : List Violation). verdict k.functions us) same (verdicts n.functions vs ws moved an)
 
   checked_one : (bytes : List ℕ) (a b : Answer) → CheckedCases bytes a → CheckedCases bytes b → a ≡ b
-  checked_one bytes a b (inl x) (inl y) = x.2 ∙ (ap refused_notyet (places bytes x.0 y.0 x.1 y.1) ∙ sym y.2)
-  checked_one bytes a b (inl x) (inr y) = absurd (both bytes y.0 x.0 y.2 x.1)
-  checked_one bytes a b (inr x) (inl y) = absurd (both bytes x.0 y.0 x.2 y.1)
+  checked_one bytes a b (inl x) (inl y) = x.2 ∙ (ap refusal (one_refusal reads lists trees bytes places x.0 y.0 x.1 y.1) ∙ sym y.2)
+  checked_one bytes a b (inl x) (inr y) = absurd (never_refused reads lists trees bytes both y.0 x.0 y.2 y.5 x.1)
+  checked_one bytes a b (inr x) (inl y) = absurd (never_refused reads lists trees bytes both x.0 y.0 x.2 x.5 y.1)
   checked_one bytes a b (inr x) (inr y) = x.4 ∙ (one_verdict bytes x.0 y.0 x.1 y.1 x.2 y.2 x.3 y.3 ∙ sym y.4)
 
   few_lanes : (bytes : List ℕ) (shader : CoreModule) → StandsFor bytes shader → lanes_of shader < 2 ^ 32

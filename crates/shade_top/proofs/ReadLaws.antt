@@ -6,13 +6,18 @@ use Rattle.std.proofs.lemmas.List.Sums.{sum_by-append}
 use Rattle.shade_base.specs.Shelf.{faults_of}
 use Rattle.shade_core.specs.declared.module.CoreModule.{CoreModule}
 use Rattle.shade_first.specs.FirstForm.{StandsFor}
-use Rattle.shade_top.specs.Answer.{Answer, IsAnswerTo, check_unread, checked, run_unread, stopped, job_unread, run_, IsChecked, leaves, judged, Runs, fault_read}
-use Rattle.shade_top.specs.Report.{Answers, IsJobAnswer, unread, read_job, AnswersModule, rejected, accepted, AnswersText, leaves_form, module_}
+use Rattle.shade_top.specs.Answer.{Answer, IsAnswerTo, check_unread, checked, run_unread, stopped, job_unread, run_, IsChecked, refused, judged, Runs, fault_read}
+use Rattle.shade_top.specs.Report.{Answers, IsJobAnswer, unread, read_job, AnswersModule, rejected, accepted, AnswersText, refused_text, module_, IsRefusal}
 use Rattle.shade_top.specs.Request.{Request, Check, Run, File, files, shader_file, job_file}
 use Rattle.shade_top.specs.Serves.{IsReadOf, AreReadsOf}
+use Rattle.shade_top.specs.Text.{Parses}
 
 count_grows : {A : Type 0} (p : A → Bool) (xs ys : List A) → count_by p xs ≤ count_by p (xs ++ ys)
 count_grows p xs ys = let is : count_by p (xs ++ ys) ≡ count_by p xs + count_by p ys = sum_by-append (λ x. cond (p x) 1 0) xs ys in omega arith
+
+-- a refusal is an answer
+pub is_refused : (bytes : List ℕ) (answer : Answer) → IsRefusal bytes answer → IsChecked bytes answer
+is_refused bytes answer r = subst (IsChecked bytes) (sym r.told) (refused r.why r.is)
 
 -- what holds of a read holds with more names before and after it
 pub read_later : (texts : Option (List ℕ → Option (List ℕ))) (before more now : List (List ℕ)) (file : File) (read : Option (List ℕ)) → IsReadOf texts (before ++ more) now file read → IsReadOf texts before now file read
@@ -34,18 +39,18 @@ module _ (texts : Option (List ℕ → Option (List ℕ))) (before mid now : Lis
   job_by bytes shader answer runs read given unread first = record { reads = Some bytes ∷ None ∷ []; given = one_more bytes (None ∷ []) first given; answered = job_unread runs }
   job_by bytes shader answer runs read given (read_job {steps = steps} a) first = record { reads = Some bytes ∷ Some steps ∷ []; given = one_more bytes (Some steps ∷ []) first given; answered = run_ runs a }
 
-  module_by : (bytes : List ℕ) (shader : CoreModule) (answer : Answer) → StandsFor bytes shader → AnswersModule texts mid now shader name answer → IsReadOf texts before mid (shader_file file) (Some bytes) → Answers texts before now (Run file name) answer
-  module_by bytes shader answer stands (rejected v not_zero same) first =
-      record { reads = Some bytes ∷ []; given = one_more bytes [] first same; answered = stopped (subst (IsChecked bytes) (sym v.is) (judged stands v.are)) not_zero }
-  module_by bytes shader answer stands (accepted {violations = vs} are none a) first =
-      job_by bytes shader answer (record { stands = stands; violations = vs; are = are; no_errors = none }) a.read a.given a.answered first
+  module_by : (bytes : List ℕ) (shader : CoreModule) (answer : Answer) → Parses bytes → StandsFor bytes shader → AnswersModule texts mid now shader name answer → IsReadOf texts before mid (shader_file file) (Some bytes) → Answers texts before now (Run file name) answer
+  module_by bytes shader answer parses stands (rejected v not_zero same) first =
+      record { reads = Some bytes ∷ []; given = one_more bytes [] first same; answered = stopped (subst (IsChecked bytes) (sym v.is) (judged parses stands v.are)) not_zero }
+  module_by bytes shader answer parses stands (accepted {violations = vs} are none a) first =
+      job_by bytes shader answer (record { parses = parses; stands = stands; violations = vs; are = are; no_errors = none }) a.read a.given a.answered first
 
   text_by : (bytes : List ℕ) (answer : Answer) → AnswersText texts mid now bytes name answer → IsReadOf texts before mid (shader_file file) (Some bytes) → Answers texts before now (Run file name) answer
-  text_by bytes answer (leaves_form {offset = offset} at a same) first =
-      record { reads = Some bytes ∷ []; given = one_more bytes [] first same; answered = stopped (subst (IsChecked bytes) (sym a) (leaves at)) (λ z. two_zero (sym (ap (λ (x : Answer). x.status) a) ∙ z)) } where
+  text_by bytes answer (refused_text r same) first =
+      record { reads = Some bytes ∷ []; given = one_more bytes [] first same; answered = stopped (is_refused bytes answer r) (λ z. two_zero (sym (ap (λ (x : Answer). x.status) r.told) ∙ z)) } where
         two_zero : ◌≡◌ {A = ℕ} 2 0 → ⊥
         two_zero e = cc
-  text_by bytes answer (module_ {shader = shader} stands a) first = module_by bytes shader answer stands a first
+  text_by bytes answer (module_ {shader = shader} parses stands a) first = module_by bytes shader answer parses stands a first
 
   -- a run whose shader was read
   pub run_read : {T E : Type 0} (f : T → Answer) (result : Result T E) (bytes : List ℕ) (read : Option (List ℕ)) (request : Request) → request ≡ Run file name → IsReadOf texts before mid (shader_file file) read → read ≡ Some bytes

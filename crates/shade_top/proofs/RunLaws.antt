@@ -5,14 +5,16 @@ use Rattle.std.proofs.lemmas.Bool.Decides.{nat_tests}
 use Rattle.shade_base.specs.declared.severity.Severity.TheVariants.{Error}
 use Rattle.shade_core.specs.declared.module.CoreModule.{CoreModule}
 use Rattle.shade_report.specs.CheckReport.{count_of}
-use Rattle.shade_first.specs.FirstForm.{StandsFor, LeavesAt}
+use Rattle.shade_first.specs.FirstForm.{StandsFor}
 use Rattle.shade_mem.specs.declared.inputs.Inputs.{Inputs}
 use Rattle.shade_group.specs.Group.{Machine, begin, run}
 use Rattle.shade_job.specs.Steps.{AllBelow, States}
-use Rattle.shade_top.specs.Answer.{Answer, IsChecked, leaves, judged, IsRan, no_job, job, inputs, lanes_of, outcome, fault_read, refused_job, refused_notyet}
-use Rattle.shade_top.specs.Report.{IsVerdict, IsJobAnswer, unread, read_job, AnswersJob, AnswersModule, accepted, AnswersText, leaves_form, module_}
+use Rattle.shade_top.specs.Answer.{Answer, IsChecked, judged, IsRan, no_job, job, inputs, lanes_of, outcome, fault_read, refused_job}
+use Rattle.shade_sound.specs.Laws.{FirstFormRuns}
+use Rattle.shade_top.specs.Report.{IsReady, IsVerdict, IsJobAnswer, unread, read_job, AnswersJob, AnswersModule, accepted, AnswersText, module_}
 use Rattle.shade_top.specs.Request.{File, job_file}
 use Rattle.shade_top.specs.Serves.{IsReadOf, AreReadsOf}
+use Rattle.shade_top.specs.Text.{Parses}
 
 -- each step of a job is the number of a lane
 below_at : (lanes : ℕ) (steps : List ℕ) (i n : ℕ) → AllBelow lanes steps → slice_get steps i ≡ Some n → n < lanes
@@ -78,26 +80,19 @@ module _ {T E : Type 0} (f : T → Answer) (result : Result T E) (texts : Option
     by (Ok report) a = accepted v.are none a
     by (Err e) a = tt
 
-  pub text_stands : (shader : CoreModule) (bytes name : List ℕ) → StandsFor bytes shader → IfOk result (λ report. AnswersModule texts before now shader name (f report)) → IfOk result (λ report. AnswersText texts before now bytes name (f report))
-  text_stands shader bytes name stands answers = by result answers where
+  pub text_stands : (shader : CoreModule) (bytes name : List ℕ) → Parses bytes → StandsFor bytes shader → IfOk result (λ report. AnswersModule texts before now shader name (f report)) → IfOk result (λ report. AnswersText texts before now bytes name (f report))
+  text_stands shader bytes name parses stands answers = by result answers where
     by : (r : Result T E) → IfOk r (λ report. AnswersModule texts before now shader name (f report)) → IfOk r (λ report. AnswersText texts before now bytes name (f report))
-    by (Ok report) a = module_ stands a
+    by (Ok report) a = module_ parses stands a
     by (Err e) a = tt
 
-  pub text_leaves : (bytes name : List ℕ) (offset : ℕ) → LeavesAt bytes offset → now ≡ before → IfOk result (λ report. f report ≡ refused_notyet offset) → IfOk result (λ report. AnswersText texts before now bytes name (f report))
-  text_leaves bytes name offset at same answers = by result answers where
-    by : (r : Result T E) → IfOk r (λ report. f report ≡ refused_notyet offset) → IfOk r (λ report. AnswersText texts before now bytes name (f report))
-    by (Ok report) a = leaves_form at a same
-    by (Err e) a = tt
+-- the machine runs the module of a text
+pub ready : FirstFormRuns → (bytes : List ℕ) (shader : CoreModule) → StandsFor bytes shader → IsReady shader
+ready law bytes shader stands = record { runs = law bytes shader stands; rootless = stands.stands.roots }
 
 -- ---- a check of a text
 
 -- the verdict on a text that was read is its answer
-pub judged_report : {T E : Type 0} (f : T → Answer) (result : Result T E) (bytes : List ℕ) (shader : CoreModule) → StandsFor bytes shader → IfOk result (λ report. IsVerdict shader.functions (f report)) → IfOk result (λ report. IsChecked bytes (f report))
-judged_report f (Ok report) bytes shader stands v = subst (IsChecked bytes) (sym v.is) (judged stands v.are)
-judged_report f (Err e) bytes shader stands v = tt
-
--- the refusal of a text is its answer
-pub refused_report : {T E : Type 0} (f : T → Answer) (result : Result T E) (bytes : List ℕ) (offset : ℕ) → LeavesAt bytes offset → IfOk result (λ report. f report ≡ refused_notyet offset) → IfOk result (λ report. IsChecked bytes (f report))
-refused_report f (Ok report) bytes offset at is = subst (IsChecked bytes) (sym is) (leaves at)
-refused_report f (Err e) bytes offset at is = tt
+pub judged_report : {T E : Type 0} (f : T → Answer) (result : Result T E) (bytes : List ℕ) (shader : CoreModule) → Parses bytes → StandsFor bytes shader → IfOk result (λ report. IsVerdict shader.functions (f report)) → IfOk result (λ report. IsChecked bytes (f report))
+judged_report f (Ok report) bytes shader parses stands v = subst (IsChecked bytes) (sym v.is) (judged parses stands v.are)
+judged_report f (Err e) bytes shader parses stands v = tt

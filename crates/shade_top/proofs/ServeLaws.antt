@@ -16,12 +16,14 @@ use Rattle.shade_group.specs.declared.event.RunEnd.{RunEnd}
 use Rattle.shade_group.specs.declared.event.RunEnd.TheVariants as run_end
 use Rattle.shade_group.specs.Group.{Machine, run_end_of, end_by, all_ended}
 use Rattle.shade_sound.specs.Laws.{NeverDiverges, CleanWithoutErrors, HasError}
-use Rattle.shade_top.specs.Answer.{Answer, no_form, answered, IsAnswerTo, check_unread, checked, run_unread, stopped, job_unread, run_, IsChecked, leaves, judged, IsRan, no_job, job, NoJob, Runs, bad_words, fault_read, inputs, ran, outcome, run_status}
+use Rattle.shade_top.specs.Answer.{Answer, no_form, answered, IsAnswerTo, check_unread, checked, run_unread, stopped, job_unread, run_, IsChecked, refused, judged, IsRan, no_job, job, NoJob, Runs, bad_words, fault_read, inputs, ran, outcome, run_status}
 use Rattle.shade_base.specs.Shelf.{faults_of}
 use Rattle.shade_base.specs.Sink.{with_piece}
-use Rattle.shade_top.specs.Causes.{Spends, Diverges, Rejects, Leaves}
+use Rattle.shade_top.specs.Causes.{Spends, Diverges, Rejects, Refuses}
 use Rattle.shade_top.specs.Report.{Answers}
 use Rattle.shade_top.specs.Request.{Request, Check, Run, File, files, requested, request_of, files_of, shader_file, job_file}
+use Rattle.shade_top.specs.Text.{Refusal, TooLong, Utf8, Lex, Unexpected, TooDeep, NotYet, refusal_line, problem_name, line_at}
+use Rattle.shade_base.specs.declared.place.Place.{Place}
 use Rattle.shade_top.specs.Serves.{AreReadsOf, FaultOf, JobRead, ShaderRead, Ends, Serves}
 use Rattle.shade_top.proofs.ReadLaws.{read_later}
 
@@ -41,10 +43,20 @@ verdict_fits_by : (no_errors : Bool) (rest more : List ℕ) → Fits (if no_erro
 verdict_fits_by true rest more = record { some = some_byte 97 ((codes "ccepted" ++ rest) ++ more); not_three = λ e. cc; not_six = λ e. cc; not_seven = λ e. cc }
 verdict_fits_by false rest more = record { some = some_byte 114 ((codes "ejected" ++ rest) ++ more); not_three = λ e. cc; not_six = λ e. cc; not_seven = λ e. cc }
 
+line_at_some : (layer : List ℕ) (place : Place) (name : List ℕ) → 1 ≤ length (line_at layer place name)
+line_at_some layer place name = some_byte 114 ((codes "efused " ++ layer) ++ ((codes " " ++ decimal place.line) ++ ((codes ":" ++ decimal place.column) ++ ((codes " " ++ name) ++ codes "\n"))))
+
+some_line : (why : Refusal) → 1 ≤ length (refusal_line why)
+some_line TooLong = some_byte 114 (codes "efused length\n")
+some_line (Utf8 offset) = some_byte 114 ((codes "efused utf8 " ++ decimal offset) ++ codes "\n")
+some_line (Lex problem place) = line_at_some (codes "lex") place (problem_name problem)
+some_line (Unexpected place) = line_at_some (codes "syntax") place (codes "Unexpected")
+some_line (TooDeep place) = line_at_some (codes "syntax") place (codes "TooDeep")
+some_line (NotYet offset) = some_byte 114 ((codes "efused notyet " ++ decimal offset) ++ codes "\n")
+
 checked_fits : {bytes : List ℕ} {answer : Answer} → IsChecked bytes answer → Fits answer.status answer.text
-checked_fits (leaves {offset = offset} h) =
-    record { some = some_byte 114 ((codes "efused notyet " ++ decimal offset) ++ codes "\n"); not_three = λ e. cc; not_six = λ e. cc; not_seven = λ e. cc }
-checked_fits (judged {checked = module_} {violations = violations} stands are) =
+checked_fits (refused why h) = record { some = some_line why; not_three = λ e. cc; not_six = λ e. cc; not_seven = λ e. cc }
+checked_fits (judged {checked = module_} {violations = violations} parses stands are) =
     verdict_fits_by (count_of Error violations == 0) (counts_text (count_of Error violations) (count_of Warning violations) (count_of Info violations)) (flat_map (violation_text module_.functions) violations)
 
 fault_fits : (name : List ℕ) → Fits 5 (fault_read name).text
@@ -125,8 +137,8 @@ verdict_early true wanted l e = l.0 (sym e)
 verdict_early false wanted l e = l.1 (sym e)
 
 checked_early : {bytes : List ℕ} {answer : Answer} (wanted : ℕ) → Late wanted → IsChecked bytes answer → answer.status ≡ wanted → ⊥
-checked_early wanted l (leaves h) e = l.2 (sym e)
-checked_early wanted l (judged {violations = vs} stands are) e = verdict_early (count_of Error vs == 0) wanted l e
+checked_early wanted l (refused why h) e = l.2 (sym e)
+checked_early wanted l (judged {violations = vs} parses stands are) e = verdict_early (count_of Error vs == 0) wanted l e
 
 -- nor has the outcome of a run such a status
 outcome_other : (end : RunEnd) (wanted : ℕ) → wanted ≢ 0 → wanted ≢ 8 → wanted ≢ 9 → run_status end ≡ wanted → ⊥
@@ -242,42 +254,53 @@ five_has_cause words answer result taken taken' faults faults' asked a ends case
 
 -- ---- shaders
 
-module _ (Holds : List ℕ → Type 0) (wanted : ℕ) (not_five : wanted ≢ 5) (other : (shader : CoreModule) (bytes : List ℕ) (answer : Answer) → IsRan shader bytes answer → answer.status ≡ wanted → ⊥) (holds : (bytes : List ℕ) (answer : Answer) → IsChecked bytes answer → answer.status ≡ wanted → Holds bytes) where
-  shader_cause_by : (texts : Option (List ℕ → Option (List ℕ))) (before now : List (List ℕ)) {request : Request} {reads : List (Option (List ℕ))} {answer : Answer} (words : List (List ℕ)) → AreReadsOf texts (files request) reads before now → IsAnswerTo request reads answer → answer.status ≡ wanted → request_of words ≡ Some request → ShaderRead words texts before now Holds
-  shader_cause_by texts before now words given check_unread e asked = absurd (not_five (sym e))
-  shader_cause_by texts before now words given (checked {file = file} {bytes = bytes} {answer = answer} c) e asked =
-      record { file = file; after = []; named = named_by words (Check file) (shader_file file ∷ []) asked refl; bytes = bytes; read = given.1; holds = holds bytes answer c e }
-  shader_cause_by texts before now words given run_unread e asked = absurd (not_five (sym e))
-  shader_cause_by texts before now words given (stopped {file = file} {job = name} {bytes = bytes} {answer = answer} c not_zero) e asked =
-      record { file = file; after = job_file name ∷ []; named = named_by words (Run file name) (shader_file file ∷ job_file name ∷ []) asked refl; bytes = bytes; read = given.1; holds = holds bytes answer c e }
-  shader_cause_by texts before now words given (job_unread runs) e asked = absurd (not_five (sym e))
-  shader_cause_by texts before now words given (run_ {steps = steps} {shader = shader} {answer = answer} runs r) e asked = absurd (other shader steps answer r e)
+module _ (Holds : List ℕ → Type 0) (wanted : ℕ) (not_five : wanted ≢ 5) (other : (shader : CoreModule) (bytes : List ℕ) (answer : Answer) → IsRan shader bytes answer → answer.status ≡ wanted → ⊥) (Told : List ℕ → Type 0) (holds : (bytes : List ℕ) (answer : Answer) → IsChecked bytes answer → answer.status ≡ wanted → Told answer.text → Holds bytes) where
+  shader_cause_by : (texts : Option (List ℕ → Option (List ℕ))) (before now : List (List ℕ)) {request : Request} {reads : List (Option (List ℕ))} {answer : Answer} (words : List (List ℕ)) → AreReadsOf texts (files request) reads before now → IsAnswerTo request reads answer → answer.status ≡ wanted → Told answer.text → request_of words ≡ Some request → ShaderRead words texts before now Holds
+  shader_cause_by texts before now words given check_unread e told asked = absurd (not_five (sym e))
+  shader_cause_by texts before now words given (checked {file = file} {bytes = bytes} {answer = answer} c) e told asked =
+      record { file = file; after = []; named = named_by words (Check file) (shader_file file ∷ []) asked refl; bytes = bytes; read = given.1; holds = holds bytes answer c e told }
+  shader_cause_by texts before now words given run_unread e told asked = absurd (not_five (sym e))
+  shader_cause_by texts before now words given (stopped {file = file} {job = name} {bytes = bytes} {answer = answer} c not_zero) e told asked =
+      record { file = file; after = job_file name ∷ []; named = named_by words (Run file name) (shader_file file ∷ job_file name ∷ []) asked refl; bytes = bytes; read = given.1; holds = holds bytes answer c e told }
+  shader_cause_by texts before now words given (job_unread runs) e told asked = absurd (not_five (sym e))
+  shader_cause_by texts before now words given (run_ {steps = steps} {shader = shader} {answer = answer} runs r) e told asked = absurd (other shader steps answer r e)
 
-  shader_cause : {texts : Option (List ℕ → Option (List ℕ))} {before now : List (List ℕ)} {request : Request} (words : List (List ℕ)) (answer : Answer) (result : ℕ) → wanted ≢ 6 → request_of words ≡ Some request → Answers texts before now request answer → (result ≡ answer.status) ⊎ (result ≡ 6) → result ≡ wanted → ShaderRead words texts before now Holds
-  shader_cause words answer result not_six asked a cases is = shader_cause_by _ _ _ words a.given a.answered (status_is answer.status result cases wanted is not_six) asked
+  shader_cause : {texts : Option (List ℕ → Option (List ℕ))} {before now : List (List ℕ)} {request : Request} (words : List (List ℕ)) (answer : Answer) (result : ℕ) → wanted ≢ 6 → request_of words ≡ Some request → Answers texts before now request answer → (result ≡ answer.status) ⊎ (result ≡ 6) → Told answer.text → result ≡ wanted → ShaderRead words texts before now Holds
+  shader_cause words answer result not_six asked a cases told is = shader_cause_by _ _ _ words a.given a.answered (status_is answer.status result cases wanted is not_six) told asked
 
 some_errors : (count : ℕ) → ◌≡◌ {A = ℕ} (if count == 0 then 0 else 1) 1 → count ≢ 0
 some_errors count is none = no_error (subst (λ n. ◌≡◌ {A = ℕ} (if n == 0 then 0 else 1) 1) none is) where
   no_error : ◌≡◌ {A = ℕ} 0 1 → ⊥
   no_error e = cc
 
-one_holds : (bytes : List ℕ) (answer : Answer) → IsChecked bytes answer → answer.status ≡ 1 → Rejects bytes
-one_holds bytes answer (leaves h) e = absurd (cc)
-one_holds bytes answer (judged {checked = shader} {violations = vs} stands are) e = record { shader = shader; stands = stands; violations = vs; are = are; errors = some_errors (count_of Error vs) e }
+-- of a rejected shader the text that was printed does not matter
+abbrev Anything : List ℕ → Type 0
+Anything text = Unit {0}
+
+one_holds : (bytes : List ℕ) (answer : Answer) → IsChecked bytes answer → answer.status ≡ 1 → Anything answer.text → Rejects bytes
+one_holds bytes answer (refused why h) e told = absurd (cc)
+one_holds bytes answer (judged {checked = shader} {violations = vs} parses stands are) e told = record { parses = parses; shader = shader; stands = stands; violations = vs; are = are; errors = some_errors (count_of Error vs) e }
 
 no_verdict_two : (no_errors : Bool) → ◌≡◌ {A = ℕ} (if no_errors then 0 else 1) 2 → ⊥
 no_verdict_two true e = cc
 no_verdict_two false e = cc
 
-two_holds : (bytes : List ℕ) (answer : Answer) → IsChecked bytes answer → answer.status ≡ 2 → Leaves bytes
-two_holds bytes answer (leaves {offset = offset} h) e = (offset, h)
-two_holds bytes answer (judged {violations = vs} stands are) e = absurd (no_verdict_two (count_of Error vs == 0) e)
+two_holds : (taken taken' : Option (List ℕ)) (bytes : List ℕ) (answer : Answer) → IsChecked bytes answer → answer.status ≡ 2 → taken' ≡ with_piece taken answer.text → Refuses taken taken' bytes
+two_holds taken taken' bytes answer (refused why is) e told = record { why = why; is = is; told = told }
+two_holds taken taken' bytes answer (judged {violations = vs} parses stands are) e told = absurd (no_verdict_two (count_of Error vs == 0) e)
 
 module _ {texts : Option (List ℕ → Option (List ℕ))} {before now : List (List ℕ)} {request : Request} (words : List (List ℕ)) (answer : Answer) (result : ℕ) (asked : request_of words ≡ Some request) (a : Answers texts before now request answer) (cases : (result ≡ answer.status) ⊎ (result ≡ 6)) where
   -- a call that ends with 1 read a shader with an error
   pub one_has_cause : result ≡ 1 → ShaderRead words texts before now Rejects
-  one_has_cause = shader_cause Rejects 1 (λ e. cc) (λ shader bytes answer r. ran_other 1 (λ z. cc) (λ z. cc) (λ z. cc) (λ z. cc) r) one_holds words answer result (λ e. cc) asked a cases
+  one_has_cause = shader_cause Rejects 1 (λ e. cc) (λ shader bytes answer r. ran_other 1 (λ z. cc) (λ z. cc) (λ z. cc) (λ z. cc) r) Anything one_holds words answer result (λ e. cc) asked a cases tt
 
-  -- a call that ends with 2 read a text that leaves the form
-  pub two_has_cause : result ≡ 2 → ShaderRead words texts before now Leaves
-  two_has_cause = shader_cause Leaves 2 (λ e. cc) (λ shader bytes answer r. ran_other 2 (λ z. cc) (λ z. cc) (λ z. cc) (λ z. cc) r) two_holds words answer result (λ e. cc) asked a cases
+  -- a call that ends with 2 read a text that is refused, and printed why
+  pub two_has_cause : (taken taken' : Option (List ℕ)) (faults faults' : ℕ) → Ends answer taken taken' faults faults' result → result ≡ 2 → ShaderRead words texts before now (Refuses taken taken')
+  two_has_cause taken taken' faults faults' ends is =
+      shader_cause (Refuses taken taken') 2 (λ e. cc) (λ shader bytes answer r. ran_other 2 (λ z. cc) (λ z. cc) (λ z. cc) (λ z. cc) r) (λ text. taken' ≡ with_piece taken text) (two_holds taken taken') words answer result (λ e. cc) asked a cases
+      (ends.whole (λ e. two_six (sym is ∙ e)) (λ e. two_seven (sym is ∙ e))).1 is where
+        two_six : ◌≡◌ {A = ℕ} 2 6 → ⊥
+        two_six e = cc
+
+        two_seven : ◌≡◌ {A = ℕ} 2 7 → ⊥
+        two_seven e = cc

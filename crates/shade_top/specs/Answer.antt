@@ -1,6 +1,5 @@
 -- What the program answers to its words: a status and a text.
 use Rattle.std.specs.Prelude.{◌≡◌, ◌≢◌, ℕ, ◌==◌, List, [], ◌∷◌, ◌++◌, length, if◌then◌else◌, Option, None, Some, codes}
-use Rattle.std.specs.Fmt.{decimal}
 use Rattle.shade_base.specs.declared.severity.Severity.TheVariants.{Error}
 use Rattle.shade_core.specs.declared.module.CoreModule.{CoreModule}
 use Rattle.shade_core.specs.declared.module.CoreFunction.{CoreFunction}
@@ -8,13 +7,14 @@ use Rattle.shade_verdict.specs.declared.violation.Violation.{Violation}
 use Rattle.shade_verdict.specs.Violations.{AreViolations}
 use Rattle.shade_report.specs.CheckReport.{count_of, check_report}
 use Rattle.shade_report.specs.RunReport.{run_report}
-use Rattle.shade_first.specs.FirstForm.{StandsFor, LeavesAt}
+use Rattle.shade_first.specs.FirstForm.{StandsFor}
 use Rattle.shade_mem.specs.declared.inputs.Inputs.{Inputs}
 use Rattle.shade_group.specs.declared.event.RunEnd.{RunEnd}
 use Rattle.shade_group.specs.declared.event.RunEnd.TheVariants as run_end
 use Rattle.shade_group.specs.Group.{Machine, begin, run, run_end_of}
 use Rattle.shade_job.specs.Steps.{States}
 use Rattle.shade_top.specs.Request.{Request, Check, Run, request_of}
+use Rattle.shade_top.specs.Text.{Refusal, IsRefused, Parses, refusal_line}
 
 pub record Answer : Type 0 where
   pub status : ℕ
@@ -28,8 +28,11 @@ fault_read name = record { status = 5; text = (codes "fault read " ++ name) ++ c
 
 -- ---- checks
 
-abbrev pub refused_notyet : ℕ → Answer
-refused_notyet offset = record { status = 2; text = (codes "refused notyet " ++ decimal offset) ++ codes "\n" }
+abbrev pub refused_by : List ℕ → Answer
+refused_by line = record { status = 2; text = line }
+
+abbrev pub refusal : Refusal → Answer
+refusal why = refused_by (refusal_line why)
 
 -- 1 where a violation is an error
 abbrev pub verdict_status : List Violation → ℕ
@@ -38,15 +41,16 @@ verdict_status violations = if count_of Error violations == 0 then 0 else 1
 abbrev pub verdict : List CoreFunction → List Violation → Answer
 verdict functions violations = record { status = verdict_status violations; text = check_report functions violations }
 
--- The answer to a text: where it leaves the first form, or the verdict on the module that it stands for.
+-- The answer to a text: why it is refused, or the verdict on the module that it stands for.
 pub data IsChecked (bytes : List ℕ) : Answer → Type 0 where
-  leaves : {offset : ℕ} → LeavesAt bytes offset → IsChecked bytes (refused_notyet offset)
-  judged : {checked : CoreModule} {violations : List Violation} → StandsFor bytes checked → AreViolations checked.functions violations → IsChecked bytes (verdict checked.functions violations)
+  refused : (why : Refusal) → IsRefused bytes why → IsChecked bytes (refusal why)
+  judged : {checked : CoreModule} {violations : List Violation} → Parses bytes → StandsFor bytes checked → AreViolations checked.functions violations → IsChecked bytes (verdict checked.functions violations)
 
 -- ---- runs
 
--- A text that is run: it stands for a module none of whose violations is an error.
+-- A text that is run: its tokens spell a tree, and it stands for a module none of whose violations is an error.
 pub record Runs (bytes : List ℕ) (shader : CoreModule) : Type 0 where
+  pub parses : Parses bytes
   pub stands : StandsFor bytes shader
   pub violations : List Violation
   pub are : AreViolations shader.functions violations

@@ -4,3 +4,4 @@ pub mod Laws
 pub mod Report
 pub mod Request
 pub mod Serves
+pub mod Text

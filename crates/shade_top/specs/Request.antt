@@ -18,9 +18,9 @@ pub record File : Type 0 where
   pub name : List ℕ
   pub limit : ℕ
 
--- the text of a shader of the first form
+-- the text of a shader
 abbrev pub shader_file : List ℕ → File
-shader_file name = record { name = name; limit = 4096 }
+shader_file name = record { name = name; limit = 1048576 }
 
 abbrev pub job_file : List ℕ → File
 job_file name = record { name = name; limit = 16777216 }

@@ -2,22 +2,19 @@
 
 ghost use Rattle.std.specs.Prelude.{◌≡◌, ◌<◌, ◌++◌, ℕ, map, replicate, IfOk};
 ghost use Rattle.std.specs.Option.{option_map};
-ghost use Rattle.shade_top.specs.Answer.{IsChecked, fault_read, refused_notyet, verdict_status};
+ghost use Rattle.shade_top.specs.Answer.{IsChecked, fault_read, verdict_status};
 ghost use Rattle.shade_top.specs.Report.{answer_of, Answers, IsVerdict, request_seen};
 ghost use Rattle.shade_top.specs.Request.{files};
 ghost use Rattle.shade_top.specs.Serves.{Adds, IsReadOf};
 
 use crate::request::Request;
 use crate::run::run_bytes;
+use crate::text::{Reading, TEXT_LIMIT, read_shader};
 use shade_base::{Severity, Shelf, ShelfRefusal};
 use shade_core::CoreModule;
-use shade_first::{FirstFault, first_form};
 use shade_report::{check_text, count_with};
 use shade_verdict::{Violation, violations_of};
 use std::alloc::{AllocError, Global};
-
-/// The greatest number of bytes of a text of the first form.
-const TEXT_LIMIT: usize = 4096;
 
 /// A status and the text that goes with it.
 #[derive(Drop)]
@@ -82,22 +79,11 @@ pub fn fault(alloc: Global, name: &str) -> Result<Report, AllocError>
 fn check(alloc: Global, bytes: &[u8]) -> Result<Report, AllocError>
     ensures { IfOk result (λ report. IsChecked bytes.now (answer_of report)) }
 {
-    match first_form(alloc, bytes) {
-        Ok(checked) => judge(alloc, &checked),
-        Err(FirstFault::NotYet(offset)) => not_yet(alloc, offset),
-        Err(FirstFault::NoMemory) => Err(AllocError),
+    match read_shader(alloc, bytes) {
+        Ok(Reading::Shader(shader)) => judge(alloc, &shader),
+        Ok(Reading::Refused(report)) => Ok(report),
+        Err(AllocError) => Err(AllocError),
     }
-}
-
-/// Says where a text leaves the first form.
-pub fn not_yet(alloc: Global, offset: u32) -> Result<Report, AllocError>
-    ensures { IfOk result (λ report. answer_of report ≡ refused_notyet offset) }
-{
-    let text = format!(in alloc; "refused notyet {offset}\n")?;
-    Ok(Report {
-        status: 2,
-        text: text.into_bytes(),
-    })
 }
 
 fn status_of(violations: &[Violation]) -> u8

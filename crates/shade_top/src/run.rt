@@ -6,10 +6,10 @@ ghost use Rattle.shade_group.specs.Seen.{machine_of};
 ghost use Rattle.shade_top.specs.Answer.{inputs as run_inputs, IsRan, outcome, refused_job as refused_job_answer, run_status};
 ghost use Rattle.shade_top.specs.Report.{answer_of, AnswersJob, AnswersModule, AnswersText, IsReady};
 
-use crate::report::{Report, fault, judge, not_yet, read};
+use crate::report::{Report, fault, judge, read};
+use crate::text::{Reading, read_shader};
 use shade_base::Shelf;
 use shade_core::CoreModule;
-use shade_first::{FirstFault, first_form};
 use shade_group::{Group, RunEnd};
 use shade_job::{JobFault, MOST_BYTES, read_steps};
 use shade_mem::Inputs;
@@ -30,10 +30,10 @@ pub fn run_bytes<H: Shelf>(
     ensures names { (n : ℕ) × (H.failed shelf.new ≡ H.failed shelf.old ++ replicate n job.now) }
 {
     first_form_runs();
-    match first_form(alloc, bytes) {
-        Ok(shader) => run_shader(alloc, &shader, job, shelf),
-        Err(FirstFault::NotYet(offset)) => not_yet(alloc, offset),
-        Err(FirstFault::NoMemory) => Err(AllocError),
+    match read_shader(alloc, bytes) {
+        Ok(Reading::Shader(shader)) => run_shader(alloc, &shader, job, shelf),
+        Ok(Reading::Refused(report)) => Ok(report),
+        Err(AllocError) => Err(AllocError),
     }
 }
 

@@ -148,6 +148,132 @@ fn runs(rt: HostRuntime) -> Result<(), Fail> {
     Ok(())
 }
 
+/// The text of an entry without parameters, with this line in its body.
+fn line_text(alloc: Global, line: &str) -> Result<Vec<u8>, AllocError> {
+    let text = format!(in alloc; "@compute @workgroup_size(1)\nfn main() {{\n{line}\n}}\n")?;
+    Ok(text.into_bytes())
+}
+
+/// Texts that have no tokens; each row tells its line.
+#[test]
+fn texts_without_tokens(rt: HostRuntime) -> Result<(), Fail> {
+    let alloc = rt.alloc();
+    let rows: [(&[u8], &str); 9] = [
+        (b"\xFF", "refused utf8 0\n"),
+        // a text that ends within a character
+        (b"fn f() {}\xE2\x82", "refused utf8 9\n"),
+        // UTF-8 comes before the tokens
+        (b"/* x \xC3", "refused utf8 5\n"),
+        (b"/* x", "refused lex 1:1 OpenComment\n"),
+        (b"fn f() {\n  #\n}", "refused lex 2:3 BadCharacter\n"),
+        // a column counts bytes: the word before the `#` has two
+        (b"\xC3\xA9 #", "refused lex 1:4 BadCharacter\n"),
+        (b"const c = 01;", "refused lex 1:11 BadNumber\n"),
+        (
+            b"const c = 4294967296u;",
+            "refused lex 1:11 NumberTooLarge\n",
+        ),
+        // tokens come before syntax
+        (b"fn fn fn 1.5", "refused lex 1:10 FloatLiteral\n"),
+    ];
+    for (text, line) in rows {
+        let (got, out) = checked(alloc, text.to_vec(alloc)?)?;
+        assert_eq!(rt; got, Status(2), "{line}");
+        assert_eq!(rt; out.bytes(), line.as_bytes(), "{line}");
+    }
+    let (got, out) = checked(alloc, line_text(alloc, "  var x = 1.5;")?)?;
+    assert_eq!(rt; got, Status(2));
+    assert_eq!(rt; out.bytes(), b"refused lex 3:11 FloatLiteral\n".as_slice());
+    Ok(())
+}
+
+/// Texts that are not of the first form, by the line in their body; each row tells where they are refused.
+#[test]
+fn refused_lines(rt: HostRuntime) -> Result<(), Fail> {
+    let alloc = rt.alloc();
+    let rows: [(&str, &str); 5] = [
+        ("  if true { 1u }", "refused syntax 3:13 Unexpected\n"),
+        ("  x = (1u;", "refused syntax 3:10 Unexpected\n"),
+        // what comes after syntax is not asked yet
+        ("  var x: f32;", "refused notyet 36\n"),
+        ("  x = 1u;", "refused notyet 36\n"),
+        ("", "refused notyet 36\n"),
+    ];
+    for (body, line) in rows {
+        let (got, out) = checked(alloc, line_text(alloc, body)?)?;
+        assert_eq!(rt; got, Status(2), "{line}");
+        assert_eq!(rt; out.bytes(), line.as_bytes(), "{line}");
+    }
+    Ok(())
+}
+
+/// A text of some pieces: one, so many of another, so many of a third, and its end.
+fn pieces_of(
+    alloc: Global,
+    front: &str,
+    middle: (&str, usize),
+    back: (&str, usize),
+) -> Result<Vec<u8>, AllocError> {
+    let middle = middle.0.repeat(alloc, middle.1)?;
+    let back = back.0.repeat(alloc, back.1)?;
+    let text = format!(in alloc; "{front}{middle}{back}")?;
+    Ok(text.into_bytes())
+}
+
+/// Texts at the limits of length, of braces and of the chain; each row tells its line.
+#[test]
+fn limits(rt: HostRuntime) -> Result<(), Fail> {
+    let alloc = rt.alloc();
+    let bare = "@compute @workgroup_size(1)\nfn main() {}\n";
+    let rows: [(&str, (&str, usize), (&str, usize), &str); 11] = [
+        (bare, (" ", 1_048_536), ("", 0), "refused length\n"),
+        // the length comes before UTF-8 and the tokens
+        ("#", (" ", 1_048_576), ("", 0), "refused length\n"),
+        (bare, (" ", 0), ("", 0), "refused notyet 36\n"),
+        (bare, (" ", 1_048_535), ("", 0), "refused notyet 4096\n"),
+        ("fn f() ", ("{", 127), ("}", 127), "refused notyet 0\n"),
+        (
+            "fn f() ",
+            ("{", 128),
+            ("}", 128),
+            "refused syntax 1:135 TooDeep\n",
+        ),
+        ("const c = 1", ("+1", 1023), (";", 1), "refused notyet 0\n"),
+        (
+            "const c = 1",
+            ("+1", 1024),
+            (";", 1),
+            "refused syntax 1:2059 TooDeep\n",
+        ),
+        (
+            "const c = 1 + ;",
+            ("", 0),
+            ("", 0),
+            "refused syntax 1:15 Unexpected\n",
+        ),
+        ("fn f(", ("", 0), ("", 0), "refused syntax 1:6 Unexpected\n"),
+        ("fn f() -> u32 {}", ("", 0), ("", 0), "refused notyet 0\n"),
+    ];
+    for (front, middle, back, line) in rows {
+        let (got, out) = checked(alloc, pieces_of(alloc, front, middle, back)?)?;
+        assert_eq!(rt; got, Status(2), "{line}");
+        assert_eq!(rt; out.bytes(), line.as_bytes(), "{line}");
+    }
+    Ok(())
+}
+
+/// A sink that fails its first write after three bytes.
+#[test]
+fn a_refusal_cut_short(rt: HostRuntime) -> Result<(), Fail> {
+    let alloc = rt.alloc();
+    let mut shelf = shelf_with(alloc, line_text(alloc, "")?, Vec::new(alloc))?;
+    let mut out = MemorySink::new(alloc, 4096, vec![in alloc; (0, 3)]?)?;
+    let words = words_of(alloc, &["check", "a.wgsl"])?;
+    assert_eq!(rt; serve(alloc, &words, &mut shelf, &mut out), Status(6));
+    assert_eq!(rt; out.bytes(), b"ref".as_slice());
+    Ok(())
+}
+
 #[test]
 fn other_statuses(rt: HostRuntime) -> Result<(), Fail> {
     let alloc = rt.alloc();

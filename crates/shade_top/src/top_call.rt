@@ -4,7 +4,7 @@ ghost use Rattle.std.specs.Prelude.{◌≡◌, ◌≢◌, ◌≤◌, ◌⊎◌, 
 ghost use Rattle.std.specs.String.{string_bytes};
 ghost use Rattle.shade_base.specs.Counter.{Rose};
 ghost use Rattle.shade_top.specs.Answer.{NoJob};
-ghost use Rattle.shade_top.specs.Causes.{Diverges, Leaves, Rejects, Spends};
+ghost use Rattle.shade_top.specs.Causes.{Diverges, Refuses, Rejects, Spends};
 ghost use Rattle.shade_top.specs.Request.{request_of as request_in};
 ghost use Rattle.shade_top.specs.Serves.{Adds, Ends, FaultOf, JobRead, Serves, ShaderRead, names_of};
 
@@ -32,9 +32,9 @@ pub fn serve<H: Shelf, K: Sink>(
     ensures texts { H.texts shelf.new ≡ H.texts shelf.old }
     // no other name than those of the files in the words joins the failed names
     ensures names { Adds (names_of (map (λ word. string_bytes word) words.now)) (H.failed shelf.old) (H.failed shelf.new) }
-    // 1 only where the shader has a violation that is an error, 2 only where its text leaves the first form
+    // 1 only where the shader has a violation that is an error, 2 only where its text is refused, by the layer that the line names
     ensures rejected { result.0 ≡ 1 → ShaderRead (map (λ word. string_bytes word) words.now) (H.texts shelf.old) (H.failed shelf.old) (H.failed shelf.new) Rejects }
-    ensures refused { result.0 ≡ 2 → ShaderRead (map (λ word. string_bytes word) words.now) (H.texts shelf.old) (H.failed shelf.old) (H.failed shelf.new) Leaves }
+    ensures refused { result.0 ≡ 2 → ShaderRead (map (λ word. string_bytes word) words.now) (H.texts shelf.old) (H.failed shelf.old) (H.failed shelf.new) (Refuses (K.taken out.old) (K.taken out.new)) }
     // 3 only where the words fit no form, and then 3, or 6 where the write failed
     ensures bad_words { result.0 ≡ 3 → IsNone (request_in (map (λ word. string_bytes word) words.now)) }
     ensures no_form { IsNone (request_in (map (λ word. string_bytes word) words.now)) → (result.0 ≡ 3) ⊎ (result.0 ≡ 6) }

@@ -1,10 +1,18 @@
-use Rattle.std.proofs.Common.{rules}
-use Rattle.shade_top.specs.Report.{answer_of}
-use Rattle.shade_top.proofs.RunLaws.{text_stands, text_leaves}
+use Rattle.std.proofs.Common.{rules, subst}
+use Rattle.shade_top.specs.declared.text.Reading.TheVariants as reading
+use Rattle.shade_top.specs.Report.{answer_of, refused_text, IsReadingOf}
+use Rattle.shade_top.proofs.RunLaws.{ready, text_stands}
 use Rattle.shade_top.proofs.run.run_bytes.Goals as goal
 
-pub returns-in-Ok-clause-answers : goal.returns-in-Ok-clause-answers
-returns-in-Ok-clause-answers g c = text_stands answer_of c.run_shader.result _ _ _ c.in-Ok.shader c.args.bytes.now c.args.job.now c.in-Ok.ensures c.run_shader.ensures.answers
+pub run_shader-requires : goal.run_shader-requires
+run_shader-requires g c =
+    let is : IsReadingOf c.args.bytes.now (reading.Shader c.in-Ok-Shader.shader) = subst (IsReadingOf c.args.bytes.now) c.in-Ok-Shader.field-0-is c.in-Ok-Shader.ensures in
+    ready c.first_form_runs.ensures c.args.bytes.now c.in-Ok-Shader.shader is.1
 
-pub returns-in-Err-NotYet-clause-answers : goal.returns-in-Err-NotYet-clause-answers
-returns-in-Err-NotYet-clause-answers g c = text_leaves answer_of c.not_yet.result _ _ _ c.args.bytes.now c.args.job.now c.in-Err-NotYet.offset (search rules) (search rules) c.not_yet.ensures
+pub returns-in-Ok-Shader-clause-answers : goal.returns-in-Ok-Shader-clause-answers
+returns-in-Ok-Shader-clause-answers g c =
+    let is : IsReadingOf c.args.bytes.now (reading.Shader c.in-Ok-Shader.shader) = subst (IsReadingOf c.args.bytes.now) c.in-Ok-Shader.field-0-is c.in-Ok-Shader.ensures in
+    text_stands answer_of c.run_shader.result _ _ _ c.in-Ok-Shader.shader c.args.bytes.now c.args.job.now is.0 is.1 c.run_shader.ensures.answers
+
+pub returns-in-Ok-Refused-clause-answers : goal.returns-in-Ok-Refused-clause-answers
+returns-in-Ok-Refused-clause-answers g c = refused_text (subst (IsReadingOf c.args.bytes.now) c.in-Ok-Refused.field-0-is c.in-Ok-Refused.ensures) (search rules)

@@ -27,7 +27,7 @@ pub returns-in-Ok-clause-rejected : goal.returns-in-Ok-clause-rejected
 returns-in-Ok-clause-rejected g c = one_has_cause (map (λ word. string_bytes word) c.args.words.now) (answer_of c.in-Ok.report) _ (sym c.in-Some.ensures) c.in-Ok.ensures.answers c.written-in-Ok.ensures.cases
 
 pub returns-in-Ok-clause-refused : goal.returns-in-Ok-clause-refused
-returns-in-Ok-clause-refused g c = two_has_cause (map (λ word. string_bytes word) c.args.words.now) (answer_of c.in-Ok.report) _ (sym c.in-Some.ensures) c.in-Ok.ensures.answers c.written-in-Ok.ensures.cases
+returns-in-Ok-clause-refused g c = two_has_cause (map (λ word. string_bytes word) c.args.words.now) (answer_of c.in-Ok.report) _ (sym c.in-Some.ensures) c.in-Ok.ensures.answers c.written-in-Ok.ensures.cases _ _ _ _ (rw c.deref.ensures.value at c.written-in-Ok.ensures.ends)
 
 pub returns-in-Ok-clause-refused_job : goal.returns-in-Ok-clause-refused_job
 returns-in-Ok-clause-refused_job g c = four_has_cause (map (λ word. string_bytes word) c.args.words.now) (answer_of c.in-Ok.report) _ (sym c.in-Some.ensures) c.in-Ok.ensures.answers c.written-in-Ok.ensures.cases
