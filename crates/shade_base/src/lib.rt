@@ -21,6 +21,3 @@ pub use severity::Severity;
 pub use shelf::{Shelf, ShelfRefusal};
 pub use sink::{Failed, Sink};
 pub use status::Status;
-
-#[cfg(test)]
-mod tests;

@@ -84,6 +84,3 @@ fn offset_at(tokens: &[Token], at: usize, stop: u32) -> u32
         None => stop,
     }
 }
-
-#[cfg(test)]
-mod tests;

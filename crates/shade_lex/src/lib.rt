@@ -18,6 +18,3 @@ pub use fault::LexFault;
 pub use lexer::{Tokens, lex};
 pub use template::{TemplatePairs, templates};
 pub use token::{Suffix, Token, TokenKind};
-
-#[cfg(test)]
-mod tests;

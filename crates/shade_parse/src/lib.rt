@@ -22,6 +22,3 @@ mod updates;
 mod whole;
 
 pub use whole::parse;
-
-#[cfg(test)]
-mod tests;

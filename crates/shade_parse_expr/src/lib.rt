@@ -16,6 +16,3 @@ pub mod pieces;
 pub use answer::expression;
 pub use fault::SyntaxFault;
 pub use goal::Goal;
-
-#[cfg(test)]
-mod tests;
