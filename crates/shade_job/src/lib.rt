@@ -9,7 +9,7 @@ ghost use Rattle.shade_job.specs.Steps.{States, line, lines};
 ghost use Rattle.shade_job.specs.Faults.{Faults};
 ghost use Rattle.shade_job.specs.Laws.{OneJob};
 
-use shade_first::decimal_value;
+use shade_base::decimal_value;
 use std::alloc::{AllocError, Global};
 
 /// The greatest number of bytes of a job.

@@ -1,8 +1,8 @@
 use Rattle.std.proofs.Common.{◌≡◌, ◌∙◌, refl, eqb, true, false, sym, ◌<◌, length, arith}
 use Rattle.std.proofs.lemmas.Bool.{eqb-true}
 use Rattle.std.proofs.lemmas.Bool.Decides.{nat_tests}
-use Rattle.shade_first.proofs.Numbers.{not_empty, no_zero_first, no_other, not_above, is_decimal}
-use Rattle.shade_first.proofs.number.decimal_value.Goals as goal
+use Rattle.shade_base.proofs.Numbers.{not_empty, no_zero_first, no_other, not_above, is_decimal}
+use Rattle.shade_base.proofs.decimal.decimal_value.Goals as goal
 
 pub returns-then-is_empty : goal.returns-then-is_empty
 returns-then-is_empty c = λ n small is. let h : 0 < length c.args.text.now = not_empty n c.args.text.now small is in let e : eqb (length c.args.text.now) 0 ≡ true = sym c.is_empty.ensures ∙ c.if-is_empty.true in let none : length c.args.text.now ≡ 0 = eqb-true _ _ e in omega arith

@@ -1,7 +1,7 @@
 use Rattle.std.proofs.Common.{◌≡◌, ◌<◌, ◌^◌, drop}
 use Rattle.std.specs.Str.{all_ascii_digits}
-use Rattle.shade_first.proofs.Numbers.{read_on}
-use Rattle.shade_first.proofs.number.decimal_value.Given as goal
+use Rattle.shade_base.proofs.Numbers.{read_on}
+use Rattle.shade_base.proofs.decimal.decimal_value.Given as goal
 
 abbrev pub invariant-digits : goal.invariant-digits
 invariant-digits l = record {
