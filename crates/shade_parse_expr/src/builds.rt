@@ -1,6 +1,7 @@
 //! Trees from their parts.
 
 ghost use Rattle.std.specs.Prelude.{◌≡◌, ◌+◌, ◌<◌, ◌≤◌, ◌^◌, ◌++◌, ◌∷◌, [], true, false, length, slice_get, MatchResult, IfOk};
+ghost use Rattle.std.specs.Result.{IsErrAnd};
 ghost use Rattle.shade_ast.specs.Names.{Grows};
 
 use crate::part::{Fault, Listing, Part};
@@ -8,6 +9,14 @@ use shade_ast::{Expr, ExprKind, Infix, Named, Names, Prefix};
 use shade_base::Place;
 use sqlite_items::{Boxed, Items};
 use std::alloc::{AllocError, Global};
+
+/// A refusal, which lets go of what was read before it. A tree that is dropped at an exit of its own reader is dropped there
+/// kind by kind, which is what takes the longest to prove: so it is handed on to here.
+pub fn refuse<H: Drop>(fault: Fault, held: H) -> Result<Part, Fault>
+    ensures { IsErrAnd result (λ f. f ≡ fault) }
+{
+    Err(fault)
+}
 
 /// The number of a name, which stays right while names are added.
 pub fn number(names: &mut Names, text: &str) -> Result<u32, Fault>
@@ -51,8 +60,12 @@ pub fn infix(
     ensures { MatchResult result (λ p. p ≡ record { expr = record { node = right.node; place = left.expr.place; kind = ExprKind.Infix left.expr operator at right.expr }; end = right.end; node = right.node + 1; bare = false }) (λ f. f ≡ Fault.NoMemory) }
 {
     let place = left.expr.place;
+    let left = match boxed(alloc, left.expr) {
+        Ok(left) => left,
+        Err(fault) => return refuse(fault, right),
+    };
     let kind = ExprKind::Infix {
-        left: boxed(alloc, left.expr)?,
+        left,
         operator,
         at,
         right: boxed(alloc, right.expr)?,
@@ -118,8 +131,12 @@ pub fn index(alloc: Global, whole: Part, bracket: Place, at: Part) -> Result<Par
     ensures { MatchResult result (λ p. p ≡ record { expr = record { node = at.node; place = whole.expr.place; kind = ExprKind.Index whole.expr bracket at.expr }; end = at.end + 1; node = at.node + 1; bare = true }) (λ f. f ≡ Fault.NoMemory) }
 {
     let first = whole.expr.place;
+    let whole = match boxed(alloc, whole.expr) {
+        Ok(whole) => whole,
+        Err(fault) => return refuse(fault, at),
+    };
     let kind = ExprKind::Index {
-        whole: boxed(alloc, whole.expr)?,
+        whole,
         bracket,
         index: boxed(alloc, at.expr)?,
     };
