@@ -13,11 +13,12 @@ use Rattle.shade_ast.specs.Repeats.{Listed}
 use Rattle.shade_ast.specs.Expressions.{Expression}
 use Rattle.shade_ast.specs.Reads.{Reads, Fails}
 use Rattle.shade_ast.proofs.Stages.{Stage}
-use Rattle.shade_ast.proofs.Lists.{Closed, Item}
+use Rattle.shade_ast.specs.Chains.{Closed}
+use Rattle.shade_ast.proofs.Lists.{Item}
 use Rattle.shade_ast.proofs.ShapeLaws.{expr_grows}
-use Rattle.shade_parse_expr.specs.declared.part.Part.{Part}
-use Rattle.shade_parse_expr.specs.declared.part.Fault.{Fault}
-use Rattle.shade_parse_expr.specs.declared.part.Fault.TheVariants as fault
+use Rattle.shade_cursor.specs.declared.part.Part.{Part}
+use Rattle.shade_cursor.specs.declared.part.Fault.{Fault}
+use Rattle.shade_cursor.specs.declared.part.Fault.TheVariants as fault
 use Rattle.shade_parse_expr.specs.Parts.{FailsAt, Faults}
 use Rattle.shade_parse_expr.proofs.Trees.{Tree}
 

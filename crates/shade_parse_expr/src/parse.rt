@@ -9,25 +9,24 @@ ghost use Rattle.shade_ast.specs.Nodes.{expr_nodes};
 ghost use Rattle.shade_ast.specs.Repeats.{Listed, MaybeListed};
 ghost use Rattle.shade_ast.specs.Shaped.{expr_shape};
 ghost use Rattle.shade_ast.specs.Expressions.{Additive, Call, Expression, LeftSide, LeftSingular, Multiplicative, Primary, Relational, Shift, Singular, TypeName, Unary};
-ghost use Rattle.shade_ast.proofs.LeftLaws.{AccessStep, IndexStep, LeftFirst, MemberStep};
-ghost use Rattle.shade_ast.proofs.Lists.{Closed};
-ghost use Rattle.shade_ast.proofs.Tails.{Tail};
-ghost use Rattle.shade_parse_expr.specs.Operators.{Closing, Joins, NoLeaf, StandsWord};
+ghost use Rattle.shade_ast.specs.Steps.{AccessStep, IndexStep, LeftFirst, MemberStep};
+ghost use Rattle.shade_ast.specs.Chains.{Closed, Tail};
+ghost use Rattle.shade_cursor.specs.Operators.{Closing, Joins, NoLeaf, StandsWord};
 ghost use Rattle.shade_parse_expr.specs.Parts.{Faults, ReadsList, ReadsTree};
 ghost use Rattle.shade_parse_expr.specs.Rests.{Called, Compared, JoinPart, Joining, is_bare, joint_rank};
-ghost use Rattle.shade_parse_expr.specs.Shown.{lexemes};
+ghost use Rattle.shade_cursor.specs.Shown.{lexemes};
 
-use crate::builds::{
+use shade_ast::{Expr, ExprKind, Keyword, Names, Sign};
+use shade_base::Place;
+use shade_cursor::builds::{
     call, index, infix, leaf, member, number, paren, prefix, push, refuse, template,
 };
-use crate::operators::{
+use shade_cursor::operators::{
     Joint, comparison_at, factor_at, infix_of, joins, joint_at, left_prefix_at, prefix_at,
     shift_at, sign_of, term_at,
 };
-use crate::part::{Fault, Listing, Part};
-use crate::piece::{Piece, key_at, mark_at, number_at, word_at};
-use shade_ast::{Expr, ExprKind, Keyword, Names, Sign};
-use shade_base::Place;
+use shade_cursor::part::{Fault, Listing, Part};
+use shade_cursor::piece::{Piece, key_at, mark_at, number_at, word_at};
 use sqlite_items::Items;
 use std::alloc::Global;
 

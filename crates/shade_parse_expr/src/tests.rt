@@ -1,10 +1,10 @@
 //! Pieces and phrases of texts, at their edges.
 
-use crate::piece::{Piece, key_at, mark_at, number_at, word_at};
-use crate::pieces::pieces_of;
 use crate::{Goal, SyntaxFault, expression};
 use shade_ast::{Keyword, Names, Sign};
 use shade_base::Place;
+use shade_cursor::piece::{Piece, key_at, mark_at, number_at, word_at};
+use shade_cursor::pieces::pieces_of;
 use shade_lex::{Suffix, lex, templates};
 use std::alloc::{AllocError, Global};
 use std::test::Fail;

@@ -1,8 +1,9 @@
 use Rattle.std.proofs.Common.{refl, sym, ap, subst, arith, rules, length, slice_get, true, false, ◌∙◌, ◌+◌, ◌≤◌, ◌≡◌, [], Some}
-use Rattle.shade_ast.proofs.LeftLaws.{AccessStep, Factor, IndexStep, MemberStep, Term, accesses, factors, terms}
-use Rattle.shade_ast.proofs.Lists.{Closed}
+use Rattle.shade_ast.specs.Steps.{AccessStep, Factor, IndexStep, MemberStep, Term}
+use Rattle.shade_ast.proofs.LeftLaws.{accesses, factors, terms}
+use Rattle.shade_ast.specs.Chains.{Closed, Tail}
 use Rattle.shade_ast.proofs.ShapeLaws.{grows_trans}
-use Rattle.shade_ast.proofs.Tails.{Tail, left_first, left_first_fails}
+use Rattle.shade_ast.proofs.Tails.{left_first, left_first_fails}
 use Rattle.shade_ast.specs.Expressions.{Additive, Expression, Multiplicative, Primary, Relational, Shift, Singular, TypeName, Unary, operand}
 use Rattle.shade_ast.specs.Lexemes.{Mark}
 use Rattle.shade_ast.specs.Nodes.{expr_nodes}
@@ -18,19 +19,19 @@ use Rattle.shade_parse_expr.proofs.Prefixes.{free_fails, free_reads, prefix_fail
 use Rattle.shade_parse_expr.proofs.Primaries.{accesses_end, by_index_fails, by_index_open, called_fails, false_reads, index_fails, index_reads, member_fails, member_reads, numeral_reads, paren_fails, paren_open, primary_stuck, template_fails, true_reads, type_alone, type_stuck, word_alone, word_call, word_call_fails, word_fails}
 use Rattle.shade_parse_expr.proofs.Readings.{builds, goes_as, goes_on, here_tree, leaf_tree, lists_as, operand_part, prefix_tree, read_as, relation_part, turn_first, turn_here, turn_infix, turn_step}
 use Rattle.shade_parse_expr.proofs.Shifts.{compared_fails, compared_none, relation_fails, relation_first_fails, relation_operand_fails, relation_reads, shift_alone, shift_first_fails, shift_operand_fails, shift_stuck}
-use Rattle.shade_parse_expr.proofs.Tokens.{shown_within, isnt, told_none, told_some}
+use Rattle.shade_cursor.proofs.Tokens.{shown_within, isnt, told_none, told_some}
 use Rattle.shade_parse_expr.proofs.Trees.{leaf_false, leaf_name, leaf_number, leaf_true, name_stays, reads_tree, tree_of}
 use Rattle.shade_parse_expr.proofs.Turns.{err_ok, errs, fails_here, fault_on, if_built, if_ok, no_memory}
-use Rattle.shade_parse_expr.specs.Operators.{Joins, ShiftAt, joint_infix, prefix_of}
+use Rattle.shade_cursor.specs.Operators.{Joins, ShiftAt, joint_infix, prefix_of}
 use Rattle.shade_parse_expr.specs.Parts.{ReadsList}
 use Rattle.shade_parse_expr.specs.Rests.{Called, Compared, JoinPart, Joining, joint_rank}
-use Rattle.shade_parse_expr.specs.Shown.{lexeme, lexemes}
+use Rattle.shade_cursor.specs.Shown.{lexeme, lexemes}
 use Rattle.std.proofs.lemmas.Bool.{not-false, not-true}
 use Rattle.std.proofs.lemmas.List.{length-map}
 use Rattle.std.proofs.lemmas.Option.{slice_get_within}
 use Rattle.shade_ast.specs.declared.expr.ExprKind.TheVariants as kind
 use Rattle.shade_ast.specs.declared.lexeme.Sign.TheVariants as sign
-use Rattle.shade_parse_expr.specs.declared.part.Fault.TheVariants as fault
+use Rattle.shade_cursor.specs.declared.part.Fault.TheVariants as fault
 use Rattle.shade_parse_expr.proofs.parse.+grammar.Goals as goal
 
 pub expression-returns-in_err-left-clause-tree : goal.expression-returns-in_err-left-clause-tree

@@ -1,6 +1,8 @@
 use Rattle.std.proofs.Common.{ap, arith, slice_get, ◌+◌, ◌≡◌, [], Some}
-use Rattle.shade_ast.proofs.LeftLaws.{AccessStep, LeftFirst, left_accesses}
-use Rattle.shade_ast.proofs.Tails.{Tail, left_first, left_first_fails}
+use Rattle.shade_ast.specs.Steps.{AccessStep, LeftFirst}
+use Rattle.shade_ast.proofs.LeftLaws.{left_accesses}
+use Rattle.shade_ast.specs.Chains.{Tail}
+use Rattle.shade_ast.proofs.Tails.{left_first, left_first_fails}
 use Rattle.shade_ast.proofs.ShapeLaws.{grows_trans}
 use Rattle.shade_ast.specs.Expressions.{LeftSide, LeftSingular, left_singular}
 use Rattle.shade_ast.specs.Lexemes.{Mark}
@@ -11,15 +13,15 @@ use Rattle.shade_parse_expr.proofs.Chains.{then_fails, then_reads}
 use Rattle.shade_parse_expr.proofs.Listings.{left_name_reads, left_paren_fails, left_paren_open, left_stuck}
 use Rattle.shade_parse_expr.proofs.Prefixes.{free_fails, free_reads, left_by, left_free, left_there, prefix_fails, prefix_reads}
 use Rattle.shade_parse_expr.proofs.Readings.{builds, goes_as, goes_on, leaf_tree, prefix_tree}
-use Rattle.shade_parse_expr.proofs.Tokens.{shown_within, told_none, told_some}
+use Rattle.shade_cursor.proofs.Tokens.{shown_within, told_none, told_some}
 use Rattle.shade_parse_expr.proofs.Trees.{leaf_name, tree_of}
 use Rattle.shade_parse_expr.proofs.Turns.{err_ok, errs, fails_here, fault_on, if_built, if_ok, no_memory}
-use Rattle.shade_parse_expr.specs.Operators.{left_prefix_of}
-use Rattle.shade_parse_expr.specs.Shown.{lexeme, lexemes}
+use Rattle.shade_cursor.specs.Operators.{left_prefix_of}
+use Rattle.shade_cursor.specs.Shown.{lexeme, lexemes}
 use Rattle.std.proofs.lemmas.List.{length-map}
 use Rattle.std.proofs.lemmas.Option.{slice_get_within}
 use Rattle.shade_ast.specs.declared.lexeme.Sign.TheVariants as sign
-use Rattle.shade_parse_expr.specs.declared.part.Fault.TheVariants as fault
+use Rattle.shade_cursor.specs.declared.part.Fault.TheVariants as fault
 use Rattle.shade_parse_expr.proofs.parse.+lefts.Goals as goal
 
 pub left_side-returns-in_default-clause-tree : goal.left_side-returns-in_default-clause-tree

@@ -1,15 +1,15 @@
 use Rattle.std.proofs.Common.{arith, ◌+◌}
-use Rattle.shade_ast.proofs.LeftLaws.{MemberStep}
+use Rattle.shade_ast.specs.Steps.{MemberStep}
 use Rattle.shade_ast.specs.Nodes.{expr_nodes}
 use Rattle.shade_ast.specs.Shaped.{expr_shape}
 use Rattle.shade_parse_expr.proofs.Accesses.{by_name_tree}
 use Rattle.shade_parse_expr.proofs.Primaries.{by_name_fails}
 use Rattle.shade_parse_expr.proofs.Readings.{builds}
-use Rattle.shade_parse_expr.proofs.Tokens.{shown_within}
+use Rattle.shade_cursor.proofs.Tokens.{shown_within}
 use Rattle.shade_parse_expr.proofs.Turns.{err_ok, errs, fails_here, if_built, no_memory}
-use Rattle.shade_parse_expr.specs.Shown.{lexeme, lexemes}
+use Rattle.shade_cursor.specs.Shown.{lexeme, lexemes}
 use Rattle.std.proofs.lemmas.List.{length-map}
-use Rattle.shade_parse_expr.specs.declared.part.Fault.TheVariants as fault
+use Rattle.shade_cursor.specs.declared.part.Fault.TheVariants as fault
 use Rattle.shade_parse_expr.proofs.parse.by_name.Goals as goal
 
 pub returns-in_default-clause-tree : goal.returns-in_default-clause-tree

@@ -6,14 +6,14 @@ use Rattle.shade_ast.specs.Shaped.{expr_shape}
 use Rattle.shade_base.specs.declared.place.Place.{Place}
 use Rattle.shade_parse_expr.proofs.Primaries.{call_fails, call_reads, call_stuck, call_type_fails}
 use Rattle.shade_parse_expr.proofs.Readings.{goes_on}
-use Rattle.shade_parse_expr.proofs.Tokens.{shown_within, told_none, told_some}
+use Rattle.shade_cursor.proofs.Tokens.{shown_within, told_none, told_some}
 use Rattle.shade_parse_expr.proofs.Turns.{err_ok, errs, fails_here, fault_on, if_ok}
 use Rattle.shade_parse_expr.specs.Rests.{Called}
-use Rattle.shade_parse_expr.specs.Shown.{lexeme, lexemes}
+use Rattle.shade_cursor.specs.Shown.{lexeme, lexemes}
 use Rattle.std.proofs.lemmas.List.{length-map}
 use Rattle.std.proofs.lemmas.Option.{slice_get_within}
 use Rattle.shade_ast.specs.declared.lexeme.Sign.TheVariants as sign
-use Rattle.shade_parse_expr.specs.declared.part.Fault.TheVariants as fault
+use Rattle.shade_cursor.specs.declared.part.Fault.TheVariants as fault
 use Rattle.shade_parse_expr.proofs.parse.call_only.Goals as goal
 
 pub returns-in_err-callee-clause-tree : goal.returns-in_err-callee-clause-tree
