@@ -18,9 +18,11 @@ use Rattle.shade_ast.specs.Repeats.{Many, Maybe, absent, present}
 use Rattle.shade_ast.specs.Statements.{Block}
 use Rattle.shade_ast.specs.Reads.{Near, rank, rank_of}
 use Rattle.shade_ast.proofs.Firsts.{First}
-use Rattle.shade_ast.proofs.Stages.{After, Ends, Closes, closes_end, closes_after, near_get, near_append, one_token}
-use Rattle.shade_ast.proofs.StmtLayers.{arm_shaped, arm_count, arm_is, arm_counts, otherwise_shaped, otherwise_count, otherwise_is, otherwise_counts}
-use Rattle.shade_ast.proofs.StmtNodes.{arm_numbers, arm_numbered, otherwise_numbers, otherwise_numbered}
+use Rattle.shade_ast.specs.Chains.{After, Ends}
+use Rattle.shade_ast.proofs.Stages.{Closes, closes_end, closes_after, near_get, near_append, one_token}
+use Rattle.shade_ast.specs.StmtParts.{arm_shaped, arm_count, otherwise_shaped, otherwise_count, arm_numbers, otherwise_numbers}
+use Rattle.shade_ast.proofs.StmtLayers.{arm_is, arm_counts, otherwise_is, otherwise_counts}
+use Rattle.shade_ast.proofs.StmtNodes.{arm_numbered, otherwise_numbered}
 use Rattle.shade_parse_expr.proofs.Trees.{count_join}
 use Rattle.shade_parse.specs.declared.read.Read.{Read}
 use Rattle.shade_parse.specs.declared.parts.Branches.{Branches}

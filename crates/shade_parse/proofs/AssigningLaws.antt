@@ -8,11 +8,12 @@ use Rattle.shade_ast.specs.declared.stmt.OpAssign.TheVariants as operator
 use Rattle.shade_ast.specs.Lexemes.{Lexeme, Mark, Adjacent}
 use Rattle.shade_ast.specs.Statements.{Assigns, add_assigns, subtract_assigns, multiply_assigns, divide_assigns, remainder_assigns, bit_and_assigns, bit_or_assigns, bit_xor_assigns, shift_left_assigns, shift_right_assigns}
 use Rattle.shade_ast.specs.Reads.{Near, Reads, Fails, rank, rank_of}
-use Rattle.shade_ast.proofs.Stages.{Stage, After, Ends, Closes, near_get, begin, change, single, single_fails, closes_end, closes_after}
-use Rattle.shade_ast.proofs.Placed.{Placed, some_place, lexeme_place}
-use Rattle.shade_parse_expr.specs.Operators.{found, Behind}
+use Rattle.shade_ast.proofs.Stages.{Stage, Closes, near_get, begin, change, single, single_fails, closes_end, closes_after}
+use Rattle.shade_ast.specs.Chains.{After, Ends, Placed}
+use Rattle.shade_ast.proofs.Placed.{some_place, lexeme_place}
+use Rattle.shade_cursor.specs.Operators.{found, Behind}
 use Rattle.shade_parse_expr.proofs.Ranks.{after_place}
-use Rattle.shade_parse_expr.proofs.Tokens.{some_one, Told, told, untold}
+use Rattle.shade_cursor.proofs.Tokens.{some_one, Told, told, untold}
 use Rattle.shade_parse.specs.Updates.{assigns_of, Assigning, plainly, by_operator}
 use Rattle.shade_parse.proofs.Faulty.{reads_to}
 use Rattle.shade_parse.proofs.Steps.{Stops, Avoids, end_stops, next, next_fails, token_or, ended}

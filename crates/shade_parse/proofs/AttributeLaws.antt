@@ -8,8 +8,9 @@ use Rattle.shade_ast.specs.Shapes.{NameShape, ExprShapes, AttrNameShape, attr_na
 use Rattle.shade_ast.specs.Repeats.{Maybe, absent, Many, no_more, more}
 use Rattle.shade_ast.specs.Statements.{Name, name, AttrName, plain_attr, diagnostic_attr, const_attr, AttrArguments, Attribute, attribute}
 use Rattle.shade_ast.specs.Reads.{Near, Reads, Fails, rank}
-use Rattle.shade_ast.proofs.Stages.{Stage, After, Ends, Closes, near_get, begin, change, closes_end, closes_after}
-use Rattle.shade_ast.proofs.Placed.{Placed, name_begins, some_place}
+use Rattle.shade_ast.proofs.Stages.{Stage, Closes, near_get, begin, change, closes_end, closes_after}
+use Rattle.shade_ast.specs.Chains.{After, Ends, Placed}
+use Rattle.shade_ast.proofs.Placed.{name_begins, some_place}
 use Rattle.shade_ast.proofs.Manys.{More, more_begin, more_one, more_fails, more_ends}
 use Rattle.shade_parse.specs.Maybes.{Stands, ReadsMaybe}
 use Rattle.shade_parse.proofs.Steps.{Stops, BeginsWith, end_stops, end_avoids, maybe_stops, maybe_closes, next, next_fails, token, no_token, left, right, not_here, ended, maybe, maybe_fails, fails_later}

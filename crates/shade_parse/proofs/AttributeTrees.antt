@@ -14,9 +14,9 @@ use Rattle.shade_ast.specs.Nodes.{maybe_of as nodes_maybe, attr_name_nodes, argu
 use Rattle.shade_ast.specs.Repeats.{Many, MaybeListed}
 use Rattle.shade_ast.specs.Expressions.{Expression}
 use Rattle.shade_ast.specs.Statements.{AttrName as AttrNamePhrase, AttrArguments, Attribute}
-use Rattle.shade_ast.proofs.Lists.{Closed}
+use Rattle.shade_ast.specs.Chains.{Closed}
 use Rattle.shade_ast.proofs.ShapeLaws.{shape_grows, attr_name_same, arguments_same, attr_grows}
-use Rattle.shade_parse_expr.specs.declared.part.Listing.{Listing}
+use Rattle.shade_cursor.specs.declared.part.Listing.{Listing}
 use Rattle.shade_parse_expr.specs.Parts.{ReadsList}
 use Rattle.shade_parse_expr.proofs.Trees.{count_join}
 use Rattle.shade_parse.specs.declared.read.Read.{Read}

@@ -8,8 +8,9 @@ use Rattle.shade_ast.specs.Shapes.{NameShape, ExprShape, VarSpaceShape, VarShape
 use Rattle.shade_ast.specs.Repeats.{Maybe}
 use Rattle.shade_ast.specs.Statements.{Name, name, OfType, HasValue, VarSpace, var_space, Var, var}
 use Rattle.shade_ast.specs.Reads.{Reads, Fails}
-use Rattle.shade_ast.proofs.Stages.{Stage, After, Ends, Closes, begin, change, closes_end, closes_after}
-use Rattle.shade_ast.proofs.Placed.{Placed, placed_closes, name_closes, name_begins}
+use Rattle.shade_ast.proofs.Stages.{Stage, Closes, begin, change, closes_end, closes_after}
+use Rattle.shade_ast.specs.Chains.{After, Ends, Placed}
+use Rattle.shade_ast.proofs.Placed.{placed_closes, name_closes, name_begins}
 use Rattle.shade_parse.specs.Maybes.{Stands, ReadsMaybe}
 use Rattle.shade_parse.specs.Rests.{Bound, bound, ending, SpaceEnd, space_end}
 use Rattle.shade_parse.proofs.Steps.{Stops, Avoids, BeginsWith, end_stops, end_avoids, name_stops, name_avoids, maybe_stops, maybe_avoids, maybe_closes, next, next_fails, token, no_token, ended, maybe, maybe_fails}

@@ -14,12 +14,13 @@ use Rattle.shade_ast.specs.Shaped.{attr_shapes, expr_shape, block_shape, stmt_sh
 use Rattle.shade_ast.specs.Repeats.{Many}
 use Rattle.shade_ast.specs.Expressions.{Expression}
 use Rattle.shade_ast.specs.Statements.{Attribute, Block, Statement}
-use Rattle.shade_ast.proofs.Stages.{After, Ends, Closes, closes_end, closes_after}
+use Rattle.shade_ast.specs.Chains.{After, Ends}
+use Rattle.shade_ast.proofs.Stages.{Closes, closes_end, closes_after}
 use Rattle.shade_ast.proofs.Placed.{some_place}
 use Rattle.shade_ast.proofs.StmtLayers.{block_is, block_counts}
 use Rattle.shade_ast.proofs.StmtNodes.{block_numbered}
 use Rattle.shade_ast.proofs.ShapeLaws.{expr_grows}
-use Rattle.shade_parse_expr.specs.declared.part.Part.{Part}
+use Rattle.shade_cursor.specs.declared.part.Part.{Part}
 use Rattle.shade_parse_expr.specs.Parts.{ReadsTree}
 use Rattle.shade_parse_expr.proofs.Trees.{count_join}
 use Rattle.shade_parse.specs.declared.read.Read.{Read}

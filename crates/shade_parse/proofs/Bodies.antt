@@ -7,7 +7,8 @@ use Rattle.shade_ast.specs.Needs.{most_of}
 use Rattle.shade_ast.specs.Nodes.{joined_of, CountFrom}
 use Rattle.shade_ast.specs.Repeats.{Many, no_more, more}
 use Rattle.shade_ast.specs.Reads.{Near}
-use Rattle.shade_ast.proofs.Stages.{After, Ends, Closes, near_append}
+use Rattle.shade_ast.specs.Chains.{After, Ends}
+use Rattle.shade_ast.proofs.Stages.{Closes, near_append}
 use Rattle.shade_ast.proofs.ShapeLaws.{grows_trans}
 use Rattle.shade_parse_expr.proofs.Trees.{count_join}
 use Rattle.shade_parse.specs.Readings.{Seen}

@@ -17,11 +17,12 @@ use Rattle.shade_ast.specs.Repeats.{Listed}
 use Rattle.shade_ast.specs.Statements.{Block, MaybeMark, no_mark, some_mark, Selects}
 use Rattle.shade_ast.specs.Reads.{Near, rank, rank_of}
 use Rattle.shade_ast.proofs.Firsts.{First, first_is}
-use Rattle.shade_ast.proofs.Stages.{After, Ends, Closes, closes_end, closes_after, near_get}
-use Rattle.shade_ast.proofs.Heads.{Headed}
+use Rattle.shade_ast.specs.Chains.{After, Ends, Headed}
+use Rattle.shade_ast.proofs.Stages.{Closes, closes_end, closes_after, near_get}
 use Rattle.shade_ast.proofs.Placed.{some_place}
-use Rattle.shade_ast.proofs.StmtLayers.{clause_shaped, clause_count, shape-Case, shape-Default, needs-Case, needs-Default}
-use Rattle.shade_ast.proofs.StmtNodes.{clause_numbers, nodes-Case, nodes-Default}
+use Rattle.shade_ast.specs.StmtParts.{clause_shaped, clause_count, clause_numbers}
+use Rattle.shade_ast.proofs.StmtLayers.{shape-Case, shape-Default, needs-Case, needs-Default}
+use Rattle.shade_ast.proofs.StmtNodes.{nodes-Case, nodes-Default}
 use Rattle.shade_parse_expr.proofs.Trees.{count_join}
 use Rattle.shade_parse.specs.declared.read.Read.{Read}
 use Rattle.shade_parse.specs.declared.parts.ClauseBody.{ClauseBody}

@@ -11,7 +11,8 @@ use Rattle.shade_ast.specs.Repeats.{Many, no_more, Maybe, absent, present}
 use Rattle.shade_ast.specs.Expressions.{Expression, relational, shifted, additive, multiplicative, unary, operand, primary, typed, plain_type}
 use Rattle.shade_ast.specs.Statements.{Block, block, no_statement}
 use Rattle.shade_ast.specs.Reads.{Near, rank}
-use Rattle.shade_ast.proofs.Stages.{After, Ends, Closes, closes_end, near_get}
+use Rattle.shade_ast.specs.Chains.{After, Ends}
+use Rattle.shade_ast.proofs.Stages.{Closes, closes_end, near_get}
 use Rattle.shade_ast.proofs.Placed.{some_place, lexeme_place}
 use Rattle.shade_parse.specs.declared.read.Read.{Read}
 use Rattle.shade_parse.specs.Readings.{Seen}

@@ -16,9 +16,11 @@ use Rattle.shade_ast.specs.Shaped.{attr_shapes, block_shape, stmt_shape, stmt_sh
 use Rattle.shade_ast.specs.Repeats.{Many, no_more, more, Maybe, absent, present}
 use Rattle.shade_ast.specs.Statements.{Attribute}
 use Rattle.shade_ast.specs.Reads.{Near, rank, rank_of}
-use Rattle.shade_ast.proofs.Stages.{After, Ends, Closes, closes_end, closes_after}
-use Rattle.shade_ast.proofs.StmtLayers.{stmt_kind_shaped, stmt_kind_count, arm_shaped, arm_count, otherwise_shaped, otherwise_count, clause_shaped, continuing_shaped, shape-Block, shape-If, shape-Switch, shape-Loop, shape-For, shape-While, needs-Block, needs-If, needs-Switch, needs-Loop, needs-For, needs-While}
-use Rattle.shade_ast.proofs.StmtNodes.{stmt_kind_numbers, arm_numbers, otherwise_numbers, nodes-Block, nodes-If, nodes-Switch, nodes-Loop, nodes-For, nodes-While}
+use Rattle.shade_ast.specs.Chains.{After, Ends}
+use Rattle.shade_ast.proofs.Stages.{Closes, closes_end, closes_after}
+use Rattle.shade_ast.proofs.StmtLayers.{stmt_kind_shaped, stmt_kind_count, shape-Block, shape-If, shape-Switch, shape-Loop, shape-For, shape-While, needs-Block, needs-If, needs-Switch, needs-Loop, needs-For, needs-While}
+use Rattle.shade_ast.specs.StmtParts.{arm_shaped, arm_count, otherwise_shaped, otherwise_count, clause_shaped, continuing_shaped, arm_numbers, otherwise_numbers}
+use Rattle.shade_ast.proofs.StmtNodes.{stmt_kind_numbers, nodes-Block, nodes-If, nodes-Switch, nodes-Loop, nodes-For, nodes-While}
 use Rattle.shade_parse_expr.proofs.Trees.{count_join}
 use Rattle.shade_parse.specs.declared.read.Read.{Read}
 use Rattle.shade_parse.specs.declared.parts.Body.{Body}

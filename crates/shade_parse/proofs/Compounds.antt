@@ -17,8 +17,8 @@ use Rattle.shade_ast.specs.Repeats.{Many, no_more, more}
 use Rattle.shade_ast.specs.Statements.{Attribute, Statement}
 use Rattle.shade_ast.specs.Reads.{Near, rank, rank_of}
 use Rattle.shade_ast.proofs.Firsts.{First, first_is}
-use Rattle.shade_ast.proofs.Stages.{After, Ends, Closes, closes_end, closes_after, near_get}
-use Rattle.shade_ast.proofs.Heads.{Headed}
+use Rattle.shade_ast.specs.Chains.{After, Ends, Headed}
+use Rattle.shade_ast.proofs.Stages.{Closes, closes_end, closes_after, near_get}
 use Rattle.shade_ast.proofs.Placed.{some_place}
 use Rattle.shade_ast.proofs.StmtLayers.{stmt_kind_shaped, stmt_kind_count, shape-Block, shape-If, shape-Switch, shape-Loop, shape-For, shape-While, needs-Block, needs-If, needs-Switch, needs-Loop, needs-For, needs-While}
 use Rattle.shade_ast.proofs.StmtNodes.{stmt_kind_numbers, nodes-Block, nodes-If, nodes-Switch, nodes-Loop, nodes-For, nodes-While}

@@ -10,9 +10,9 @@ use Rattle.shade_ast.specs.Expressions.{plain_type}
 use Rattle.shade_ast.specs.Statements.{Name, name, Attribute, OfType, of_type, HasValue, Const, const, Var, Block, block, no_statement}
 use Rattle.shade_ast.specs.Declarations.{MemberOf, a_member, ResultOf, Declaration, no_declaration, alias, constant, assertion, struct, variable, overridable, function}
 use Rattle.shade_ast.specs.Reads.{Near, Reads, Fails, rank, rank_of}
-use Rattle.shade_ast.proofs.Stages.{Stage, After, Ends, Closes, near_get, begin, change, stuck, closes_end, closes_after}
-use Rattle.shade_ast.proofs.Heads.{Headed}
-use Rattle.shade_ast.proofs.Placed.{Placed, placed_closes, name_closes, name_begins, some_place, some_name}
+use Rattle.shade_ast.proofs.Stages.{Stage, Closes, near_get, begin, change, stuck, closes_end, closes_after}
+use Rattle.shade_ast.specs.Chains.{After, Ends, Headed, Placed}
+use Rattle.shade_ast.proofs.Placed.{placed_closes, name_closes, name_begins, some_place, some_name}
 use Rattle.shade_parse_expr.proofs.Chains.{then_reads, then_fails}
 use Rattle.shade_parse.specs.Maybes.{Stands, ReadsMaybe}
 use Rattle.shade_parse.specs.Rests.{bound, Enclosed, enclosed, PlainAt, OverrideShape, OverrideRest, FnShape, FnRest}

@@ -24,7 +24,7 @@ use Rattle.shade_ast.specs.Expressions.{TypeName, Expression}
 use Rattle.shade_ast.specs.Statements.{Name, Attribute, OfType, HasValue, Var as VarPhrase, Block as BlockPhrase}
 use Rattle.shade_ast.specs.Declarations.{MemberOf, ResultOf, Declaration}
 use Rattle.shade_ast.specs.Reads.{Reads}
-use Rattle.shade_ast.proofs.Heads.{Headed}
+use Rattle.shade_ast.specs.Chains.{Headed}
 use Rattle.shade_ast.proofs.Stages.{begin}
 use Rattle.shade_ast.proofs.ShapeLaws.{decl_grows, list_grows}
 use Rattle.shade_parse_expr.proofs.Trees.{count_join}

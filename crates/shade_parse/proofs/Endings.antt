@@ -8,8 +8,9 @@ use Rattle.shade_ast.specs.Shapes.{NameShape}
 use Rattle.shade_ast.specs.Repeats.{Maybe, absent, present}
 use Rattle.shade_ast.specs.Statements.{Name, name, CommaName, comma_name, MaybeMark, no_mark, some_mark}
 use Rattle.shade_ast.specs.Reads.{Near, Reads, Fails, rank, rank_of}
-use Rattle.shade_ast.proofs.Stages.{Stage, After, Ends, Closes, near_get, begin, change, closes_end, closes_after}
-use Rattle.shade_ast.proofs.Placed.{Placed, placed_closes, name_begins, some_place}
+use Rattle.shade_ast.proofs.Stages.{Stage, Closes, near_get, begin, change, closes_end, closes_after}
+use Rattle.shade_ast.specs.Chains.{After, Ends, Placed}
+use Rattle.shade_ast.proofs.Placed.{placed_closes, name_begins, some_place}
 use Rattle.shade_parse.specs.Rests.{Ending, ending, SpaceEnd, space_end}
 use Rattle.shade_parse.proofs.Steps.{Stops, end_stops, next, next_fails, token, no_token, ended, left, right, not_here}
 

@@ -5,11 +5,11 @@ use Rattle.std.proofs.lemmas.List.{length-map}
 use Rattle.shade_base.specs.declared.place.Place.{Place}
 use Rattle.shade_ast.specs.Lexemes.{Lexeme}
 use Rattle.shade_ast.specs.Reads.{Reads, Fails}
-use Rattle.shade_parse_expr.specs.declared.part.Fault.{Fault}
-use Rattle.shade_parse_expr.specs.declared.part.Fault.TheVariants as fault
-use Rattle.shade_parse_expr.specs.declared.piece.Piece.{Piece}
+use Rattle.shade_cursor.specs.declared.part.Fault.{Fault}
+use Rattle.shade_cursor.specs.declared.part.Fault.TheVariants as fault
+use Rattle.shade_cursor.specs.declared.piece.Piece.{Piece}
 use Rattle.shade_parse_expr.specs.Parts.{Faults}
-use Rattle.shade_parse_expr.specs.Shown.{lexeme, lexemes}
+use Rattle.shade_cursor.specs.Shown.{lexeme, lexemes}
 use Rattle.shade_parse.specs.Maybes.{Stands, MaybeFaults}
 
 pub within : (pieces : List Piece) (at : ℕ) → at ≤ length pieces → at ≤ length (lexemes pieces)

@@ -4,8 +4,8 @@ use Rattle.std.proofs.lemmas.Option.{slice_get_within}
 use Rattle.shade_base.specs.declared.place.Place.{Place}
 use Rattle.shade_ast.specs.Lexemes.{Lexeme}
 use Rattle.shade_ast.specs.Reads.{Near, Reads, Fails}
-use Rattle.shade_ast.proofs.Stages.{After, Ends, Closes, near_append, near_get, one_token}
-use Rattle.shade_ast.proofs.Heads.{Headed}
+use Rattle.shade_ast.specs.Chains.{After, Ends, Headed}
+use Rattle.shade_ast.proofs.Stages.{Closes, near_append, near_get, one_token}
 use Rattle.shade_ast.proofs.Placed.{some_place, lexeme_place}
 use Rattle.shade_parse.specs.Follows.{ReadsBy, FailsBy, Above, Marked}
 

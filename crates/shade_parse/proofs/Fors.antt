@@ -15,7 +15,8 @@ use Rattle.shade_ast.specs.Shaped.{block_shape}
 use Rattle.shade_ast.specs.Repeats.{Maybe, absent}
 use Rattle.shade_ast.specs.Expressions.{Expression}
 use Rattle.shade_ast.specs.Statements.{SimpleStatement, UpdateOf, Block}
-use Rattle.shade_ast.proofs.Stages.{After, Ends, Closes, closes_end, closes_after}
+use Rattle.shade_ast.specs.Chains.{After, Ends}
+use Rattle.shade_ast.proofs.Stages.{Closes, closes_end, closes_after}
 use Rattle.shade_ast.proofs.Placed.{some_place}
 use Rattle.shade_parse_expr.proofs.Trees.{count_join}
 use Rattle.shade_parse.specs.declared.read.Read.{Read}

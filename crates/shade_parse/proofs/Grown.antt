@@ -23,7 +23,8 @@ use Rattle.shade_ast.specs.Shapes.{StmtShape, BlockShape, ArmShapes, else_if_arm
 use Rattle.shade_ast.specs.Shaped.{expr_shape, attr_shape, update_shape, selector_shape, stmt_shape, clause_step, stmt_kind_step, arm_step, block_step, continuing_step, otherwise_step, stmt_step}
 use Rattle.shade_ast.specs.Needs.{most_of, maybe_of, expr_needs, attr_needs, update_needs, selector_needs, simple_needs, stmt_needs, clause_needs, stmt_kind_needs, arm_needs, block_layer_needs, continuing_needs, otherwise_needs, stmt_layer_needs}
 use Rattle.shade_ast.specs.Nodes.{joined_of, CountFrom}
-use Rattle.shade_ast.proofs.StmtLayers.{clause_shaped, clause_count, stmt_kind_shaped, stmt_kind_count, arm_shaped, arm_count, arm_is, arm_counts, block_shaped, block_count, continuing_shaped, continuing_count, otherwise_shaped, otherwise_count, stmt_shaped, stmt_count}
+use Rattle.shade_ast.specs.StmtParts.{clause_shaped, clause_count, arm_shaped, arm_count, continuing_shaped, continuing_count, otherwise_shaped, otherwise_count}
+use Rattle.shade_ast.proofs.StmtLayers.{stmt_kind_shaped, stmt_kind_count, arm_is, arm_counts, block_shaped, block_count, stmt_shaped, stmt_count}
 use Rattle.shade_ast.proofs.ShapeLaws.{expr_grows, attr_grows, simple_grows, stmt_grows, block_grows, list_grows, length_grows}
 use Rattle.shade_parse.specs.declared.read.Read.{Read}
 use Rattle.shade_parse.specs.declared.parts.Guarded.{Guarded}

@@ -8,9 +8,9 @@ use Rattle.shade_ast.specs.Names.{Grows}
 use Rattle.shade_ast.specs.Shapes.{ExprShape}
 use Rattle.shade_ast.specs.Nodes.{expr_nodes, CountFrom}
 use Rattle.shade_ast.proofs.ShapeLaws.{grows_trans}
-use Rattle.shade_parse_expr.specs.declared.part.Part.{Part}
-use Rattle.shade_parse_expr.specs.declared.part.Fault.{Fault}
-use Rattle.shade_parse_expr.specs.declared.part.Fault.TheVariants as fault
+use Rattle.shade_cursor.specs.declared.part.Part.{Part}
+use Rattle.shade_cursor.specs.declared.part.Fault.{Fault}
+use Rattle.shade_cursor.specs.declared.part.Fault.TheVariants as fault
 use Rattle.shade_parse_expr.specs.Parts.{ReadsTree, FailsAt, Faults}
 use Rattle.shade_parse_expr.proofs.Trees.{counted_all}
 use Rattle.shade_parse.specs.declared.read.Read.{Read}

@@ -17,7 +17,8 @@ use Rattle.shade_ast.specs.Expressions.{Expression}
 use Rattle.shade_ast.specs.Statements.{Statement, is_break, BreaksIf, breaks_if}
 use Rattle.shade_ast.specs.Reads.{Near, rank, rank_of}
 use Rattle.shade_ast.proofs.Firsts.{First, first_is}
-use Rattle.shade_ast.proofs.Stages.{After, Ends, Closes, closes_end, near_get}
+use Rattle.shade_ast.specs.Chains.{After, Ends}
+use Rattle.shade_ast.proofs.Stages.{Closes, closes_end, near_get}
 use Rattle.shade_ast.proofs.Placed.{some_place}
 use Rattle.shade_parse_expr.proofs.Trees.{count_join}
 use Rattle.shade_parse.specs.declared.read.Read.{Read}

@@ -18,11 +18,12 @@ use Rattle.shade_ast.specs.Shaped.{attr_shapes, expr_shape, stmt_shape, stmt_sha
 use Rattle.shade_ast.specs.Repeats.{Many, Maybe, absent, present}
 use Rattle.shade_ast.specs.Statements.{Attribute, Statement, BreaksIf}
 use Rattle.shade_ast.specs.Reads.{Near, rank, rank_of}
-use Rattle.shade_ast.proofs.Stages.{After, Ends, Closes, closes_end, closes_after, near_get}
-use Rattle.shade_ast.proofs.Heads.{Headed}
+use Rattle.shade_ast.specs.Chains.{After, Ends, Headed}
+use Rattle.shade_ast.proofs.Stages.{Closes, closes_end, closes_after, near_get}
 use Rattle.shade_ast.proofs.Placed.{some_place}
-use Rattle.shade_ast.proofs.StmtLayers.{continuing_shaped, continuing_count, continuing_is, continuing_counts}
-use Rattle.shade_ast.proofs.StmtNodes.{continuing_numbers, continuing_numbered}
+use Rattle.shade_ast.specs.StmtParts.{continuing_shaped, continuing_count, continuing_numbers}
+use Rattle.shade_ast.proofs.StmtLayers.{continuing_is, continuing_counts}
+use Rattle.shade_ast.proofs.StmtNodes.{continuing_numbered}
 use Rattle.shade_parse_expr.proofs.Trees.{count_join}
 use Rattle.shade_parse.specs.declared.read.Read.{Read}
 use Rattle.shade_parse.specs.declared.parts.LastBody.{LastBody}

@@ -12,8 +12,8 @@ use Rattle.shade_ast.specs.Places.{IsOnly}
 use Rattle.shade_ast.proofs.Stages.{Stage}
 use Rattle.shade_ast.proofs.PlaceLaws.{only_all}
 use Rattle.shade_ast.proofs.ShapeLaws.{list_grows, length_grows, grows_here}
-use Rattle.shade_parse_expr.specs.declared.part.Fault.{Fault}
-use Rattle.shade_parse_expr.specs.declared.part.Fault.TheVariants as fault
+use Rattle.shade_cursor.specs.declared.part.Fault.{Fault}
+use Rattle.shade_cursor.specs.declared.part.Fault.TheVariants as fault
 use Rattle.shade_parse_expr.specs.Parts.{Faults}
 use Rattle.shade_parse_expr.proofs.Trees.{count_join}
 use Rattle.shade_parse.specs.declared.read.Read.{Read}

@@ -2,9 +2,9 @@
 use Rattle.std.proofs.Common.{◌≡◌, sym, ap, ◌∙◌, refl, subst, ℕ, ◌+◌, ◌<◌, ◌≤◌, inl, inr, List, [], ◌∷◌, length, arith}
 use Rattle.std.specs.List.{slice_index_or}
 use Rattle.shade_ast.specs.Lexemes.{Lexeme}
-use Rattle.shade_parse_expr.specs.declared.piece.Piece.{Piece}
-use Rattle.shade_parse_expr.specs.Shown.{lexeme, lexemes}
-use Rattle.shade_parse_expr.proofs.PassLaws.{Walked, walk_begins, walks_on, piece_stands, pieces_behind, none_passes}
+use Rattle.shade_cursor.specs.declared.piece.Piece.{Piece}
+use Rattle.shade_cursor.specs.Shown.{lexeme, lexemes}
+use Rattle.shade_cursor.proofs.PassLaws.{Walked, walk_begins, walks_on, piece_stands, pieces_behind, none_passes}
 use Rattle.shade_parse.specs.declared.nesting.Inner.{Inner}
 use Rattle.shade_parse.specs.declared.nesting.Past.{Past}
 use Rattle.shade_parse.specs.declared.nesting.Past.TheVariants as past

@@ -6,15 +6,14 @@ use Rattle.shade_ast.specs.Lexemes.{Lexeme, Word, Mark}
 use Rattle.shade_ast.specs.Shapes.{ExprShape, ExprShapes, named}
 use Rattle.shade_ast.specs.Shaped.{expr_shapes}
 use Rattle.shade_ast.specs.Repeats.{MaybeListed, nothing}
-use Rattle.shade_ast.specs.Expressions.{TypeName, plain_type, Expression, relational}
+use Rattle.shade_ast.specs.Expressions.{TypeName, plain_type, Expression, relational, shifted}
 use Rattle.shade_ast.specs.Statements.{AttrArguments, attr_arguments, OfType, of_type, HasValue, has_value}
 use Rattle.shade_ast.specs.Reads.{Reads, Fails, rank, rank_of}
-use Rattle.shade_ast.proofs.Stages.{Stage, After, Ends, Closes, begin, change, closes_end, closes_after}
-use Rattle.shade_ast.proofs.Placed.{Placed, lexeme_place, some_place}
-use Rattle.shade_ast.proofs.Lists.{Closed}
+use Rattle.shade_ast.proofs.Stages.{Stage, Closes, begin, change, closes_end, closes_after}
+use Rattle.shade_ast.specs.Chains.{After, Ends, Placed, Closed}
+use Rattle.shade_ast.proofs.Placed.{lexeme_place, some_place}
 use Rattle.shade_ast.proofs.ExprLists.{expr_list, expr_list_back, maybe_exprs_there, maybe_exprs_here}
 use Rattle.shade_parse_expr.proofs.Ranks.{some_shift}
-use Rattle.shade_ast.specs.Expressions.{shifted}
 use Rattle.shade_parse.proofs.Steps.{Stops, Avoids, BeginsWith, fails_later, end_stops, next, next_fails, token, no_token, ended}
 
 -- `X` is such a token and a phrase of `B`

@@ -9,8 +9,7 @@ use Rattle.shade_ast.specs.Shaped.{stmt_shapes, clause_shapes, arm_shapes}
 use Rattle.shade_ast.specs.Repeats.{Many, no_more, more, Maybe, absent, present}
 use Rattle.shade_ast.specs.Expressions.{Expression}
 use Rattle.shade_ast.specs.Statements.{Attribute, SimpleStatement, UpdateOf, MaybeMark, Block, block, Statements, no_statement, more_statements, Statement, is_empty, is_block, is_simple, is_return, is_break, is_continue, is_discard, is_assert, is_if, is_switch, is_loop, is_for, is_while, Arms, no_else, otherwise, else_if, Clauses, no_clause, case, default, MaybeContinuing, not_continuing, continuing, BreaksIf, breaks_if}
-use Rattle.shade_ast.proofs.Stages.{After, Ends}
-use Rattle.shade_ast.proofs.Heads.{Headed}
+use Rattle.shade_ast.specs.Chains.{After, Ends, Headed}
 use Rattle.shade_parse.specs.Follows.{Marked}
 use Rattle.shade_parse.specs.StatementParts.{Until, UntilValue, Braced, Guards, ForHeadShape, ForShape, ForRest, ColonBlock, OneClause, ClauseAt, SwitchShape, SwitchRest, LastShape, LastStatements, ContinuingRest, LoopEnds, LoopShape, LoopRest, OneArm, LastArm, AllArms, ArmsEnd, CompoundAt, Compound, PlainAt, SimpleEnd, Plain, ValueEnd}
 

@@ -15,11 +15,12 @@ use Rattle.shade_ast.specs.Needs.{expr_needs, maybe_of as maybe_needs}
 use Rattle.shade_ast.specs.Nodes.{expr_nodes, maybe_of as maybe_nodes}
 use Rattle.shade_ast.specs.Reads.{Near, rank}
 use Rattle.shade_ast.proofs.Firsts.{First, first_is}
-use Rattle.shade_ast.proofs.Stages.{After, Ends, Closes, closes_end}
+use Rattle.shade_ast.specs.Chains.{After, Ends}
+use Rattle.shade_ast.proofs.Stages.{Closes, closes_end}
 use Rattle.shade_ast.proofs.StmtLayers.{stmt_kind_shaped, stmt_kind_count, shape-Empty, shape-Return, shape-Break, shape-Continue, shape-Discard, shape-ConstAssert, needs-Empty, needs-Return, needs-Break, needs-Continue, needs-Discard, needs-ConstAssert}
 use Rattle.shade_ast.proofs.StmtNodes.{stmt_kind_numbers, nodes-Empty, nodes-Return, nodes-Break, nodes-Continue, nodes-Discard, nodes-ConstAssert}
-use Rattle.shade_parse_expr.specs.Operators.{found}
-use Rattle.shade_parse_expr.proofs.Tokens.{Told, told, untold, some_one}
+use Rattle.shade_cursor.specs.Operators.{found}
+use Rattle.shade_cursor.proofs.Tokens.{Told, told, untold, some_one}
 use Rattle.shade_parse.specs.declared.marks.Jump.{Jump}
 use Rattle.shade_parse.specs.declared.marks.Jump.TheVariants as jump
 use Rattle.shade_parse.specs.declared.read.Read.{Read}

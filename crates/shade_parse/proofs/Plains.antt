@@ -21,9 +21,10 @@ use Rattle.shade_ast.specs.Expressions.{Expression}
 use Rattle.shade_ast.specs.Statements.{SimpleStatement, UpdateOf}
 use Rattle.shade_ast.specs.Reads.{Near, rank}
 use Rattle.shade_ast.proofs.Firsts.{First, BeginsExpr, first_is, expression_first}
-use Rattle.shade_ast.proofs.Stages.{After, Ends, Closes, closes_end, near_get}
+use Rattle.shade_ast.specs.Chains.{After, Ends}
+use Rattle.shade_ast.proofs.Stages.{Closes, closes_end, near_get}
 use Rattle.shade_ast.proofs.Placed.{some_place}
-use Rattle.shade_parse_expr.specs.declared.part.Part.{Part}
+use Rattle.shade_cursor.specs.declared.part.Part.{Part}
 use Rattle.shade_parse_expr.specs.Parts.{ReadsTree}
 use Rattle.shade_parse.specs.declared.read.Read.{Read}
 use Rattle.shade_parse.specs.Readings.{Seen, ReadsOf, simple_seen, update_seen, stmt_seen}

@@ -10,8 +10,9 @@ use Rattle.shade_ast.specs.Expressions.{Expression}
 use Rattle.shade_ast.specs.Statements.{Selects, selects_default, selects_value}
 use Rattle.shade_ast.specs.Reads.{Near}
 use Rattle.shade_ast.proofs.Firsts.{BeginsExpr, first_is, expression_first}
-use Rattle.shade_ast.proofs.Stages.{After, Ends, near_get}
-use Rattle.shade_parse_expr.specs.declared.part.Part.{Part}
+use Rattle.shade_ast.specs.Chains.{After, Ends}
+use Rattle.shade_ast.proofs.Stages.{near_get}
+use Rattle.shade_cursor.specs.declared.part.Part.{Part}
 use Rattle.shade_parse_expr.specs.Parts.{ReadsTree}
 use Rattle.shade_parse.specs.declared.read.Read.{Read}
 use Rattle.shade_parse.specs.Follows.{Above, ReadsBy, FailsBy, ReadsOfBy}

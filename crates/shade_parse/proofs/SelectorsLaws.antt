@@ -15,7 +15,8 @@ use Rattle.shade_ast.specs.Repeats.{Listed, last, last_comma, comma}
 use Rattle.shade_ast.specs.Statements.{Selects, selects_default, selects_value}
 use Rattle.shade_ast.specs.Reads.{Near, rank_of}
 use Rattle.shade_ast.proofs.Firsts.{First, BeginsExpr, expression_first}
-use Rattle.shade_ast.proofs.Stages.{After, Ends, Closes, near_get}
+use Rattle.shade_ast.specs.Chains.{After, Ends}
+use Rattle.shade_ast.proofs.Stages.{Closes, near_get}
 use Rattle.shade_ast.proofs.ShapeLaws.{grows_trans}
 use Rattle.shade_parse_expr.proofs.Trees.{count_join}
 use Rattle.shade_parse.specs.declared.read.Read.{Read}

@@ -8,8 +8,8 @@ use Rattle.shade_ast.specs.Lexemes.{Lexeme, Word, Key, Mark}
 use Rattle.shade_ast.specs.Shapes.{VarShape, BindingShape, UpdateShape, SimpleShape, var_simple, const_simple, let_simple, update_simple}
 use Rattle.shade_ast.specs.Statements.{Var, var, Const, const, UpdateOf, assigned, compounded, dropped, incremented, decremented, called_alone, SimpleStatement, simple_var, simple_const, simple_let, simple_update}
 use Rattle.shade_ast.specs.Reads.{Near, Reads, Fails}
-use Rattle.shade_ast.proofs.Stages.{Stage, After, Ends, begin, change, closes_end}
-use Rattle.shade_ast.proofs.Placed.{Placed}
+use Rattle.shade_ast.proofs.Stages.{Stage, begin, change, closes_end}
+use Rattle.shade_ast.specs.Chains.{After, Ends, Placed}
 use Rattle.shade_ast.proofs.Firsts.{First, BeginsLeft, IsName, call_first, left_side_first}
 use Rattle.shade_parse.specs.Maybes.{Stands}
 use Rattle.shade_parse.specs.Rests.{Bound, bound}

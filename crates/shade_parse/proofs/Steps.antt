@@ -6,8 +6,9 @@ use Rattle.shade_ast.specs.Shapes.{NameShape}
 use Rattle.shade_ast.specs.Repeats.{Maybe, absent, present}
 use Rattle.shade_ast.specs.Statements.{Name}
 use Rattle.shade_ast.specs.Reads.{Near, Reads, Fails, rank, rank_of}
-use Rattle.shade_ast.proofs.Stages.{Stage, After, Ends, Closes, near_get, one_token, change, consume, phrase, phrase_fails, phrase_or, phrase_or_fails, stuck, finish_ends, ends_stops, closes_after}
-use Rattle.shade_ast.proofs.Placed.{Placed, lexeme_place, placed_closes, placed_stops, name_begins}
+use Rattle.shade_ast.proofs.Stages.{Stage, Closes, near_get, one_token, change, consume, phrase, phrase_fails, phrase_or, phrase_or_fails, stuck, finish_ends, ends_stops, closes_after}
+use Rattle.shade_ast.specs.Chains.{After, Ends, Placed}
+use Rattle.shade_ast.proofs.Placed.{lexeme_place, placed_closes, placed_stops, name_begins}
 use Rattle.shade_ast.proofs.Manys.{first_read}
 use Rattle.shade_parse.specs.Maybes.{Stands, ReadsMaybe}
 

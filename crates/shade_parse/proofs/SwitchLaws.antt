@@ -9,9 +9,10 @@ use Rattle.shade_ast.specs.Shapes.{ClauseShapes, default_selector, case_clause, 
 use Rattle.shade_ast.specs.Repeats.{Many, last}
 use Rattle.shade_ast.specs.Statements.{selects_default}
 use Rattle.shade_ast.specs.Reads.{Near, rank, rank_of}
-use Rattle.shade_ast.proofs.Stages.{After, Ends, closes_end, near_get}
+use Rattle.shade_ast.specs.Chains.{After, Ends}
+use Rattle.shade_ast.proofs.Stages.{closes_end, near_get}
 use Rattle.shade_ast.proofs.Placed.{some_place}
-use Rattle.shade_ast.proofs.StmtLayers.{clause_shaped}
+use Rattle.shade_ast.specs.StmtParts.{clause_shaped}
 use Rattle.shade_parse.specs.declared.read.Read.{Read}
 use Rattle.shade_parse.specs.Follows.{Above, FailsBy, ReadsOfBy}
 use Rattle.shade_parse.specs.StatementParts.{ClauseAt, OneClause, clause_seen, clauses_seen}

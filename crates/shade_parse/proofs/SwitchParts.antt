@@ -13,12 +13,12 @@ use Rattle.shade_ast.specs.Shaped.{attr_shapes, expr_shape, clause_shapes}
 use Rattle.shade_ast.specs.Repeats.{Many}
 use Rattle.shade_ast.specs.Expressions.{Expression}
 use Rattle.shade_ast.specs.Statements.{Attribute}
-use Rattle.shade_ast.proofs.Stages.{After, Ends, Closes, closes_end, closes_after}
+use Rattle.shade_ast.specs.Chains.{After, Ends}
+use Rattle.shade_ast.proofs.Stages.{Closes, closes_end, closes_after}
 use Rattle.shade_ast.proofs.Placed.{some_place}
 use Rattle.shade_ast.proofs.ShapeLaws.{grows_trans}
-use Rattle.shade_ast.proofs.StmtLayers.{clause_count}
-use Rattle.shade_ast.proofs.StmtNodes.{clause_numbers}
-use Rattle.shade_parse_expr.specs.declared.part.Part.{Part}
+use Rattle.shade_ast.specs.StmtParts.{clause_count, clause_numbers}
+use Rattle.shade_cursor.specs.declared.part.Part.{Part}
 use Rattle.shade_parse_expr.specs.Parts.{ReadsTree}
 use Rattle.shade_parse_expr.proofs.Trees.{count_join}
 use Rattle.shade_parse.specs.declared.read.Read.{Read}

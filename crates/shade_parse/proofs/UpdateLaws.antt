@@ -8,11 +8,12 @@ use Rattle.shade_ast.specs.Shapes.{ExprShape, UpdateShape, assign, compound, pho
 use Rattle.shade_ast.specs.Expressions.{TypeName, plain_type, template_type, no_expr, Expression, Access, by_name, by_index, Call, calls, LeftSide, left_deref, left_address_of, left_singular, LeftSingular, left_name, left_parens, left_accessed}
 use Rattle.shade_ast.specs.Statements.{UpdateOf, assigned, compounded, dropped, incremented, decremented, called_alone}
 use Rattle.shade_ast.specs.Reads.{Near, Reads, Fails, rank, rank_of}
-use Rattle.shade_ast.proofs.Stages.{Stage, After, Ends, Closes, near_get, near_append, one_token, begin, change, phrase_or, phrase_or_fails, closes_end, closes_after}
-use Rattle.shade_ast.proofs.Placed.{Placed, some_place}
+use Rattle.shade_ast.proofs.Stages.{Stage, Closes, near_get, near_append, one_token, begin, change, phrase_or, phrase_or_fails, closes_end, closes_after}
+use Rattle.shade_ast.specs.Chains.{After, Ends, Placed}
+use Rattle.shade_ast.proofs.Placed.{some_place}
 use Rattle.shade_ast.proofs.Firsts.{First, BeginsExpr, BeginsLeft, IsName, call_first, expression_first, left_side_first, first_is}
 use Rattle.shade_ast.proofs.Manys.{first_read}
-use Rattle.shade_parse_expr.specs.Operators.{StandsWord}
+use Rattle.shade_cursor.specs.Operators.{StandsWord}
 use Rattle.shade_parse.specs.Updates.{assigns_of, Assigning, plainly, by_operator, BeginsCall, NoOther}
 use Rattle.shade_parse.proofs.Openings.{expression_closes}
 use Rattle.shade_parse.proofs.Steps.{Stops, Avoids, fails_later, end_stops, token_stops, token_avoids, not_here, next, next_fails, token, token_or, no_token, right, ended}

@@ -10,7 +10,7 @@ use Rattle.shade_ast.specs.Needs.{maybe_of as most_maybe, named_needs, attrs_nee
 use Rattle.shade_ast.specs.Nodes.{expr_nodes, maybe_of as nodes_maybe, CountFrom}
 use Rattle.shade_ast.specs.Reads.{Reads}
 use Rattle.shade_ast.proofs.ShapeLaws.{shape_grows, length_grows, expr_grows, named_same, attrs_same}
-use Rattle.shade_parse_expr.specs.declared.part.Part.{Part}
+use Rattle.shade_cursor.specs.declared.part.Part.{Part}
 use Rattle.shade_parse_expr.specs.Parts.{ReadsTree}
 use Rattle.shade_parse_expr.proofs.Trees.{counted_all}
 use Rattle.shade_parse.specs.declared.read.Read.{Read}

@@ -5,8 +5,8 @@ use Rattle.shade_ast.specs.Lexemes.{Lexeme}
 use Rattle.shade_ast.specs.Needs.{maybe_of as most_maybe}
 use Rattle.shade_ast.specs.Nodes.{maybe_of as nodes_maybe, CountFrom}
 use Rattle.shade_ast.specs.Reads.{Reads}
-use Rattle.shade_parse_expr.specs.declared.part.Fault.{Fault}
-use Rattle.shade_parse_expr.specs.declared.part.Fault.TheVariants as fault
+use Rattle.shade_cursor.specs.declared.part.Fault.{Fault}
+use Rattle.shade_cursor.specs.declared.part.Fault.TheVariants as fault
 use Rattle.shade_parse_expr.specs.Parts.{FailsAt}
 use Rattle.shade_parse.specs.declared.read.Read.{Read}
 use Rattle.shade_parse.specs.Readings.{Seen}

@@ -6,8 +6,7 @@ use Rattle.shade_ast.specs.declared.lexeme.Keyword.TheVariants as word
 use Rattle.shade_ast.specs.Lexemes.{Lexeme, Word, Key, Mark}
 use Rattle.shade_ast.specs.Shapes.{NameShape, BindingShape, DirectiveShape, diagnostic_directive, requires_directive, enable_directive, ExprShape, MemberShape, ResultShape, BlockShape, DeclShape, empty_decl, alias_decl, const_decl, assert_decl, struct_decl}
 use Rattle.shade_ast.specs.Repeats.{Maybe, Listed, MaybeListed}
-use Rattle.shade_ast.proofs.Stages.{After, Ends}
-use Rattle.shade_ast.proofs.Placed.{Placed}
+use Rattle.shade_ast.specs.Chains.{After, Ends, Placed}
 use Rattle.shade_ast.specs.Declarations.{RuleOf, MemberOf, ResultOf}
 use Rattle.shade_ast.specs.Expressions.{TypeName, Expression}
 use Rattle.shade_ast.specs.Statements.{Name, OfType, HasValue, CommaName, MaybeMark, Block}

@@ -18,10 +18,8 @@ use Rattle.shade_ast.specs.Nodes.{joined_of, expr_nodes, attrs_nodes, update_nod
 use Rattle.shade_ast.specs.Repeats.{Many, Maybe, Listed}
 use Rattle.shade_ast.specs.Expressions.{Expression}
 use Rattle.shade_ast.specs.Statements.{Attribute, UpdateOf, SimpleStatement, MaybeMark, Selects, BreaksIf, Block, Statement, MaybeContinuing}
-use Rattle.shade_ast.proofs.Stages.{After, Ends}
-use Rattle.shade_ast.proofs.Heads.{Headed}
-use Rattle.shade_ast.proofs.StmtLayers.{clause_shaped, clause_count, arm_shaped, arm_count, continuing_shaped, continuing_count, otherwise_shaped, otherwise_count}
-use Rattle.shade_ast.proofs.StmtNodes.{clause_numbers, arm_numbers, continuing_numbers, otherwise_numbers}
+use Rattle.shade_ast.specs.Chains.{After, Ends, Headed}
+use Rattle.shade_ast.specs.StmtParts.{clause_shaped, clause_count, arm_shaped, arm_count, continuing_shaped, continuing_count, otherwise_shaped, otherwise_count, clause_numbers, arm_numbers, continuing_numbers, otherwise_numbers}
 use Rattle.shade_parse.specs.declared.parts.Guarded.{Guarded}
 use Rattle.shade_parse.specs.declared.parts.Body.{Body}
 use Rattle.shade_parse.specs.declared.parts.Branches.{Branches}

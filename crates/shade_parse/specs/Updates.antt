@@ -9,7 +9,7 @@ use Rattle.shade_ast.specs.declared.stmt.Update.{Update}
 use Rattle.shade_ast.specs.declared.stmt.Update.TheVariants as update
 use Rattle.shade_ast.specs.Lexemes.{Lexeme, Mark}
 use Rattle.shade_ast.specs.Statements.{Assigns}
-use Rattle.shade_parse_expr.specs.Operators.{StandsWord}
+use Rattle.shade_cursor.specs.Operators.{StandsWord}
 use Rattle.shade_parse.specs.Maybes.{Stands}
 
 -- what assigns by one token: `=` has no operator

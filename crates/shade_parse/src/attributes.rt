@@ -9,15 +9,15 @@ ghost use Rattle.shade_ast.specs.Statements.{AttrArguments, AttrName as AttrName
 ghost use Rattle.shade_parse.specs.Maybes.{MaybeFaults, MaybeOf};
 ghost use Rattle.shade_parse.specs.Readings.{arguments_seen, attr_name_seen, attr_seen, attrs_seen, ReadsOf};
 ghost use Rattle.shade_parse_expr.specs.Parts.{Faults};
-ghost use Rattle.shade_parse_expr.specs.Shown.{lexemes};
+ghost use Rattle.shade_cursor.specs.Shown.{lexemes};
 
 use crate::items::push;
 use crate::read::Read;
 use crate::tokens::name;
 use shade_ast::{Arguments, Attr, AttrName, Keyword, Names, Sign};
 use shade_parse_expr::parse::arguments;
-use shade_parse_expr::part::Fault;
-use shade_parse_expr::piece::{Piece, key_at, mark_at};
+use shade_cursor::part::Fault;
+use shade_cursor::piece::{Piece, key_at, mark_at};
 use sqlite_items::Items;
 use std::alloc::Global;
 

@@ -9,15 +9,15 @@ ghost use Rattle.shade_parse.specs.Maybes.{MaybeFaults, MaybeOf};
 ghost use Rattle.shade_parse.specs.Readings.{access_seen, binding_seen, expr_seen, var_seen, var_space_seen, ReadsOf};
 ghost use Rattle.shade_parse.specs.Rests.{Bound, SpaceEnd};
 ghost use Rattle.shade_parse_expr.specs.Parts.{Faults};
-ghost use Rattle.shade_parse_expr.specs.Shown.{lexemes};
+ghost use Rattle.shade_cursor.specs.Shown.{lexemes};
 
 use crate::read::Read;
 use crate::tokens::{closed, name};
 use shade_ast::{Binding, Expr, Keyword, Named, Names, Sign, Var, VarSpace};
 use shade_base::Place;
 use shade_parse_expr::parse::{expression, type_name};
-use shade_parse_expr::part::Fault;
-use shade_parse_expr::piece::{Piece, key_at, mark_at};
+use shade_cursor::part::Fault;
+use shade_cursor::piece::{Piece, key_at, mark_at};
 use std::alloc::Global;
 
 /// A type behind a `:`, where one stands.

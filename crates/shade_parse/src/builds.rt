@@ -15,7 +15,7 @@ use shade_ast::{
     Arm, Attr, Block, Clause, Continuing, Otherwise, Selector, Simple, Stmt, StmtKind, Update,
 };
 use shade_base::Place;
-use shade_parse_expr::part::Fault;
+use shade_cursor::part::Fault;
 use sqlite_items::Items;
 
 /// A statement of a kind, with the next number.

@@ -3,12 +3,12 @@
 ghost use Rattle.std.specs.Prelude.{◌≡◌, ◌+◌, ◌<◌, ◌≤◌, ◌^◌, length, IfOk, MatchResult};
 ghost use Rattle.shade_ast.specs.Names.{Grows};
 ghost use Rattle.shade_ast.specs.Declarations.{Declaration};
-ghost use Rattle.shade_ast.proofs.Heads.{Headed};
+ghost use Rattle.shade_ast.specs.Chains.{Headed};
 ghost use Rattle.shade_parse.specs.Readings.{decl_kind_seen, decl_seen, first_of, ReadsOf};
 ghost use Rattle.shade_parse.specs.Rests.{AliasRest, AssertRest, ConstRest, FnRest, OverrideRest, PlainAt, StructRest};
 ghost use Rattle.shade_parse.specs.Parts.{fn_seen, override_seen};
 ghost use Rattle.shade_parse_expr.specs.Parts.{Faults};
-ghost use Rattle.shade_parse_expr.specs.Shown.{lexemes};
+ghost use Rattle.shade_cursor.specs.Shown.{lexemes};
 
 use crate::attributes::attributes;
 use crate::bindings::{bound, maybe_type, maybe_value, var};
@@ -21,8 +21,8 @@ use shade_ast::{
 };
 use shade_base::Place;
 use shade_parse_expr::parse::{expression, type_name};
-use shade_parse_expr::part::Fault;
-use shade_parse_expr::piece::{Piece, key_at, mark_at};
+use shade_cursor::part::Fault;
+use shade_cursor::piece::{Piece, key_at, mark_at};
 use sqlite_items::Items;
 use std::alloc::Global;
 

@@ -3,7 +3,7 @@
 ghost use Rattle.std.specs.Prelude.{◌≡◌, ◌++◌, ◌∷◌, [], MatchResult};
 
 use shade_base::Place;
-use shade_parse_expr::part::Fault;
+use shade_cursor::part::Fault;
 use sqlite_items::Items;
 
 /// Items with commas between them, whether a comma stands behind the last, and the place of the mark that closes them.

@@ -3,13 +3,13 @@
 ghost use Rattle.std.specs.Prelude.{◌≡◌, ◌<◌, ◌≤◌, ◌+◌, ◌↔◌, ℕ, List, length, slice_get, Some, IsTrue, OnSome, MatchOption};
 ghost use Rattle.shade_base.specs.declared.place.Place.{Place as PlaceOf};
 ghost use Rattle.shade_ast.specs.Lexemes.{Key, Mark};
-ghost use Rattle.shade_parse_expr.specs.Operators.{found};
-ghost use Rattle.shade_parse_expr.specs.Shown.{lexemes};
+ghost use Rattle.shade_cursor.specs.Operators.{found};
+ghost use Rattle.shade_cursor.specs.Shown.{lexemes};
 ghost use Rattle.shade_parse.specs.Trees.{jump_of, kind_of, holds, is_closing, is_selected, is_compound, is_clause};
 
 use shade_ast::{Keyword, Sign, StmtKind};
 use shade_base::Place;
-use shade_parse_expr::piece::{Piece, key_at, mark_at};
+use shade_cursor::piece::{Piece, key_at, mark_at};
 
 /// Whether a mark stands there.
 pub fn is_mark(pieces: &[Piece], at: usize, sign: Sign) -> bool

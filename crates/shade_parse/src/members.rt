@@ -11,7 +11,7 @@ ghost use Rattle.shade_parse.specs.Maybes.{MaybeFaults, MaybeOf};
 ghost use Rattle.shade_parse.specs.Readings.{enclosed_seen, first_of, member_seen, named_seen, result_seen, ReadsOf};
 ghost use Rattle.shade_parse.specs.Rests.{Enclosed};
 ghost use Rattle.shade_parse_expr.specs.Parts.{Faults};
-ghost use Rattle.shade_parse_expr.specs.Shown.{lexemes};
+ghost use Rattle.shade_cursor.specs.Shown.{lexemes};
 
 use crate::attributes::attributes;
 use crate::bindings::of_type;
@@ -21,8 +21,8 @@ use crate::tokens::name;
 use shade_ast::{Attr, FnResult, Member, Named, Names, Sign};
 use shade_base::Place;
 use shade_parse_expr::parse::type_name;
-use shade_parse_expr::part::Fault;
-use shade_parse_expr::piece::{Piece, mark_at};
+use shade_cursor::part::Fault;
+use shade_cursor::piece::{Piece, mark_at};
 use sqlite_items::Items;
 use std::alloc::Global;
 

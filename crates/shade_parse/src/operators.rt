@@ -4,14 +4,14 @@ ghost use Rattle.std.specs.Prelude.{◌≡◌, ◌+◌, ◌<◌, ◌≤◌, ◌�
 ghost use Rattle.shade_ast.specs.Lexemes.{Adjacent, Mark};
 ghost use Rattle.shade_ast.specs.Reads.{Reads};
 ghost use Rattle.shade_parse.specs.Updates.{assigns_of, Assigning, BeginsCall};
-ghost use Rattle.shade_parse_expr.specs.Operators.{found, Behind};
+ghost use Rattle.shade_cursor.specs.Operators.{found, Behind};
 ghost use Rattle.shade_parse_expr.specs.Parts.{Faults};
-ghost use Rattle.shade_parse_expr.specs.Shown.{lexemes};
+ghost use Rattle.shade_cursor.specs.Shown.{lexemes};
 
 use shade_ast::{OpAssign, Sign};
 use shade_base::Place;
-use shade_parse_expr::part::Fault;
-use shade_parse_expr::piece::{Piece, is_behind, mark_at, word_at};
+use shade_cursor::part::Fault;
+use shade_cursor::piece::{Piece, is_behind, mark_at, word_at};
 
 /// Whether a name stands there with a `(` or a template list behind it.
 pub fn begins_call(pieces: &[Piece], at: usize) -> bool

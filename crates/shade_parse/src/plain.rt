@@ -7,7 +7,7 @@ ghost use Rattle.shade_ast.specs.Statements.{Selects};
 ghost use Rattle.shade_parse.specs.Follows.{Above, Anything, Selected, ReadsOfBy, FaultsBy};
 ghost use Rattle.shade_parse.specs.Readings.{stmt_seen};
 ghost use Rattle.shade_parse.specs.StatementParts.{expr_seen, value_seen, maybe_simple_seen, maybe_update_seen, for_head_seen, ForHead, leave_seen, selector_seen, selectors_seen, ValueEnd, UntilValue, UntilSimple, UntilUpdate, Leaves, SimpleEnd, Plain};
-ghost use Rattle.shade_parse_expr.specs.Shown.{lexemes};
+ghost use Rattle.shade_cursor.specs.Shown.{lexemes};
 
 use crate::builds::{push_selector, simple_place, statement_of};
 use crate::marks::{ends_selectors, is_mark, jump_at, jump_kind};
@@ -16,8 +16,8 @@ use crate::read::{Read, before};
 use crate::updates::{simple, update};
 use shade_ast::{Expr, Keyword, Names, Selector, Sign, Simple, Stmt, StmtKind, Update};
 use shade_parse_expr::parse::expression;
-use shade_parse_expr::part::Fault;
-use shade_parse_expr::piece::{Piece, key_at, mark_at};
+use shade_cursor::part::Fault;
+use shade_cursor::piece::{Piece, key_at, mark_at};
 use sqlite_items::Items;
 use std::alloc::Global;
 

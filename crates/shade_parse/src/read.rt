@@ -3,12 +3,12 @@
 ghost use Rattle.std.specs.Prelude.{◌≡◌, ◌≤◌, ◌<◌, ◌+◌, ◌^◌, ℕ, length, slice_get, Some, Ok, Err, IfOk, MatchResult};
 ghost use Rattle.shade_base.specs.declared.place.Place.{Place as PlaceOf};
 ghost use Rattle.shade_ast.specs.Lexemes.{Mark};
-ghost use Rattle.shade_parse_expr.specs.Shown.{lexemes};
+ghost use Rattle.shade_cursor.specs.Shown.{lexemes};
 
 use crate::marks::is_mark;
 use shade_ast::Sign;
-use shade_parse_expr::part::Fault;
-use shade_parse_expr::piece::Piece;
+use shade_cursor::part::Fault;
+use shade_cursor::piece::Piece;
 
 /// A tree, the number of the token behind it and the next number of a node.
 #[derive(Drop)]

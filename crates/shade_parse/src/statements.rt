@@ -8,7 +8,7 @@ ghost use Rattle.shade_parse.specs.Follows.{Above, Anything, Closing, Free, Read
 ghost use Rattle.shade_parse.specs.Readings.{block_seen, stmt_seen, ReadsOf};
 ghost use Rattle.shade_parse.specs.StatementParts.{body_seen, stmts_seen, guarded_seen, branches_seen, for_seen, switch_seen, clauses_seen, clause_seen, clause_body_seen, loop_seen, loop_end_seen, continuing_seen, last_seen, Braced, Compound, Guards, AllArms, ForRest, SwitchRest, OneClause, ColonBlock, LoopRest, LoopEnds, ContinuingRest, LastStatements};
 ghost use Rattle.shade_parse_expr.specs.Parts.{Faults};
-ghost use Rattle.shade_parse_expr.specs.Shown.{lexemes};
+ghost use Rattle.shade_cursor.specs.Shown.{lexemes};
 
 use crate::attributes::attributes;
 use crate::builds::{
@@ -25,8 +25,8 @@ use crate::read::{Read, both};
 use shade_ast::{Block, BreakIf, Clause, Continuing, Keyword, Names, Sign, Stmt};
 use shade_base::Place;
 use shade_parse_expr::parse::expression;
-use shade_parse_expr::part::Fault;
-use shade_parse_expr::piece::{Piece, key_at, mark_at};
+use shade_cursor::part::Fault;
+use shade_cursor::piece::{Piece, key_at, mark_at};
 use sqlite_items::Items;
 use std::alloc::Global;
 

@@ -8,13 +8,13 @@ ghost use Rattle.shade_ast.specs.Reads.{Reads};
 ghost use Rattle.shade_parse.specs.Readings.{named_seen, ReadsOf};
 ghost use Rattle.shade_parse.specs.Rests.{Ending};
 ghost use Rattle.shade_parse_expr.specs.Parts.{Faults};
-ghost use Rattle.shade_parse_expr.specs.Shown.{lexemes};
+ghost use Rattle.shade_cursor.specs.Shown.{lexemes};
 
 use crate::read::Read;
 use shade_ast::{Named, Names, Sign};
-use shade_parse_expr::builds::number;
-use shade_parse_expr::part::Fault;
-use shade_parse_expr::piece::{Piece, mark_at, word_at};
+use shade_cursor::builds::number;
+use shade_cursor::part::Fault;
+use shade_cursor::piece::{Piece, mark_at, word_at};
 
 /// A name.
 pub fn name(

@@ -8,7 +8,7 @@ ghost use Rattle.shade_ast.specs.Statements.{SimpleStatement, UpdateOf};
 ghost use Rattle.shade_parse.specs.Readings.{simple_seen, update_seen, ReadsOf};
 ghost use Rattle.shade_parse.specs.Updates.{assigned_by, NoOther};
 ghost use Rattle.shade_parse_expr.specs.Parts.{Faults};
-ghost use Rattle.shade_parse_expr.specs.Shown.{lexemes};
+ghost use Rattle.shade_cursor.specs.Shown.{lexemes};
 
 use crate::bindings::{bound, var};
 use crate::operators::{assigning, begins_call};
@@ -16,8 +16,8 @@ use crate::read::Read;
 use shade_ast::{Expr, Keyword, Names, OpAssign, Sign, Simple, Update};
 use shade_base::Place;
 use shade_parse_expr::parse::{call_only, expression, left_side};
-use shade_parse_expr::part::Fault;
-use shade_parse_expr::piece::{Piece, key_at, mark_at};
+use shade_cursor::part::Fault;
+use shade_cursor::piece::{Piece, key_at, mark_at};
 use std::alloc::Global;
 
 /// A statement that may begin a `for`. `Unexpected` has the first token with which none goes on, `NoMemory` comes where a part

@@ -13,13 +13,13 @@ use Rattle.shade_ast.specs.Nodes.{expr_nodes}
 use Rattle.shade_ast.specs.Repeats.{Listed, MaybeListed}
 use Rattle.shade_ast.specs.Expressions.{Additive, Expression, Relational, Shift, Primary, LeftSide, TypeName, Unary}
 use Rattle.shade_ast.specs.Reads.{Reads, Fails}
-use Rattle.shade_ast.proofs.Lists.{Closed}
-use Rattle.shade_ast.proofs.LeftLaws.{MemberStep, IndexStep, LeftFirst}
+use Rattle.shade_ast.specs.Chains.{Closed}
+use Rattle.shade_ast.specs.Steps.{MemberStep, IndexStep, LeftFirst}
 use Rattle.shade_ast.proofs.ShapeLaws.{expr_grows}
-use Rattle.shade_parse_expr.specs.declared.part.Part.{Part}
-use Rattle.shade_parse_expr.specs.declared.part.Listing.{Listing}
-use Rattle.shade_parse_expr.specs.declared.part.Fault.{Fault}
-use Rattle.shade_parse_expr.specs.Operators.{ComparisonAt, ShiftAt}
+use Rattle.shade_cursor.specs.declared.part.Part.{Part}
+use Rattle.shade_cursor.specs.declared.part.Listing.{Listing}
+use Rattle.shade_cursor.specs.declared.part.Fault.{Fault}
+use Rattle.shade_cursor.specs.Operators.{ComparisonAt, ShiftAt}
 use Rattle.shade_parse_expr.specs.Parts.{ReadsTree, ReadsList, Faults}
 use Rattle.shade_parse_expr.specs.Rests.{is_bare, Called, Compared}
 use Rattle.shade_parse_expr.proofs.Trees.{Tree, tree_of, reads_tree, tree_grows, built_index, built_member, built_call, built_paren, built_template, built_infix}

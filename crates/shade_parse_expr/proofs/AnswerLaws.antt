@@ -11,18 +11,19 @@ use Rattle.shade_ast.specs.Nodes.{CountFrom}
 use Rattle.shade_ast.specs.Places.{Begins, IsStop, IsOnly}
 use Rattle.shade_ast.proofs.PlaceLaws.{stop_of_reads, only_of_reads, stop_of_fails, none_of_fails}
 use Rattle.shade_parse_expr.specs.declared.goal.Goal.{Goal}
-use Rattle.shade_parse_expr.specs.declared.part.Part.{Part}
-use Rattle.shade_parse_expr.specs.declared.piece.Piece.{Piece}
-use Rattle.shade_parse_expr.specs.Shown.{lexeme, lexemes}
-use Rattle.shade_parse_expr.specs.declared.part.Fault.{Fault}
-use Rattle.shade_parse_expr.specs.declared.part.Fault.TheVariants as fault
-use Rattle.shade_parse_expr.specs.declared.fault.Refusal.{Refusal}
-use Rattle.shade_parse_expr.specs.declared.fault.Refusal.TheVariants as refusal
-use Rattle.shade_parse_expr.specs.declared.fault.SyntaxFault.{SyntaxFault}
+use Rattle.shade_cursor.specs.declared.part.Part.{Part}
+use Rattle.shade_cursor.specs.declared.piece.Piece.{Piece}
+use Rattle.shade_cursor.specs.Shown.{lexeme, lexemes}
+use Rattle.shade_cursor.specs.declared.part.Fault.{Fault}
+use Rattle.shade_cursor.specs.declared.part.Fault.TheVariants as fault
+use Rattle.shade_cursor.specs.declared.fault.Refusal.{Refusal}
+use Rattle.shade_cursor.specs.declared.fault.Refusal.TheVariants as refusal
+use Rattle.shade_cursor.specs.declared.fault.SyntaxFault.{SyntaxFault}
 use Rattle.shade_parse_expr.specs.Parts.{ReadsTree, Faults}
-use Rattle.shade_parse_expr.specs.Passes.{IsFirst}
-use Rattle.shade_parse_expr.specs.Depths.{IsDeep}
-use Rattle.shade_parse_expr.specs.Answers.{production, AreFew, IsShallow, IsPhrase, IsTooDeep, IsRefused, IsFault, fault_of}
+use Rattle.shade_cursor.specs.Passes.{IsFirst}
+use Rattle.shade_cursor.specs.Depths.{IsDeep}
+use Rattle.shade_parse_expr.specs.Answers.{production, AreFew, IsShallow, IsPhrase, IsTooDeep, IsRefused, IsFault}
+use Rattle.shade_cursor.specs.TokenPlaces.{fault_of}
 use Rattle.shade_parse_expr.specs.Cuts.{IsRead, IsUnread, cut_of, uncut_of}
 
 -- what a function of the parser answers, without its rank

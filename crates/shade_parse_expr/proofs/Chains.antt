@@ -2,8 +2,9 @@
 use Rattle.std.proofs.Common.{◌≡◌, sym, ap, ◌∙◌, subst, ℕ, ◌+◌, ◌<◌, ◌≤◌, List, ◌++◌, drop, arith, append_assoc, Some, slice_get}
 use Rattle.shade_ast.specs.Lexemes.{Lexeme}
 use Rattle.shade_ast.specs.Reads.{Near, Reads, Fails, rank, rank_of}
-use Rattle.shade_ast.proofs.Stages.{Stage, After, near_append, change, phrase, phrase_fails}
-use Rattle.shade_ast.proofs.Tails.{Tail, On, takes, tail_stops, tail_closes}
+use Rattle.shade_ast.proofs.Stages.{Stage, near_append, change, phrase, phrase_fails}
+use Rattle.shade_ast.specs.Chains.{After, Tail}
+use Rattle.shade_ast.proofs.Tails.{On, takes, tail_stops, tail_closes}
 
 module _ {R : Type 0} (G C : R → List Lexeme → List Lexeme → Type 0) (n : ℕ) (tokens : List Lexeme) (from at to : ℕ) (s : Stage G n tokens from at C) where
   pub then_reads : (r : R) → Reads C n tokens at r to → Reads G n tokens from r to

@@ -8,13 +8,14 @@ use Rattle.shade_ast.specs.Shapes.{ExprShape, named, paren}
 use Rattle.shade_ast.specs.Repeats.{Listed, MaybeListed, nothing, something}
 use Rattle.shade_ast.specs.Expressions.{Expression, LeftSide}
 use Rattle.shade_ast.specs.Reads.{Near, Reads, Fails, rank, rank_of}
-use Rattle.shade_ast.proofs.Stages.{Stage, After, Ends, near_get, begin, change, phrase, phrase_fails, finish_ends, stuck}
-use Rattle.shade_ast.proofs.Heads.{Headed, take_head}
-use Rattle.shade_ast.proofs.Lists.{Closed, Item, Choice, listed_begin, maybe_begin, choose_close, choose_item, item_fails, item_close, item_stuck, item_comma}
+use Rattle.shade_ast.proofs.Stages.{Stage, near_get, begin, change, phrase, phrase_fails, finish_ends, stuck}
+use Rattle.shade_ast.specs.Chains.{After, Ends, Headed, Closed}
+use Rattle.shade_ast.proofs.Heads.{take_head}
+use Rattle.shade_ast.proofs.Lists.{Item, Choice, listed_begin, maybe_begin, choose_close, choose_item, item_fails, item_close, item_stuck, item_comma}
 use Rattle.shade_ast.proofs.Firsts.{BeginsExpr, first_is, expression_first}
-use Rattle.shade_ast.proofs.LeftLaws.{LeftFirst, first_name, first_parens}
+use Rattle.shade_ast.specs.Steps.{LeftFirst, first_name, first_parens}
 use Rattle.shade_ast.proofs.Placed.{some_place}
-use Rattle.shade_parse_expr.specs.Operators.{Closing}
+use Rattle.shade_cursor.specs.Operators.{Closing}
 use Rattle.shade_parse_expr.proofs.Chains.{then_reads, then_fails}
 use Rattle.shade_parse_expr.proofs.Prefixes.{Closer, closer_closes, closer_stops, closer_reads, closer_stuck}
 

@@ -16,16 +16,17 @@ use Rattle.shade_ast.specs.Repeats.{Listed}
 use Rattle.shade_ast.specs.Expressions.{Additive, Expression, Multiplicative, Unary}
 use Rattle.shade_ast.specs.Reads.{Reads, Fails}
 use Rattle.shade_ast.proofs.Stages.{Stage}
-use Rattle.shade_ast.proofs.Tails.{Tail, tail_ends, left_more, left_more_fails}
-use Rattle.shade_ast.proofs.Lists.{Closed}
-use Rattle.shade_ast.proofs.LeftLaws.{Factor, factors, factor_ranks, Term, terms, term_ranks}
+use Rattle.shade_ast.specs.Chains.{Tail, Closed}
+use Rattle.shade_ast.proofs.Tails.{tail_ends, left_more, left_more_fails}
+use Rattle.shade_ast.specs.Steps.{Factor, Term}
+use Rattle.shade_ast.proofs.LeftLaws.{factors, factor_ranks, terms, term_ranks}
 use Rattle.shade_ast.proofs.ShapeLaws.{expr_grows, list_grows, length_grows, grows_here, grows_trans}
-use Rattle.shade_parse_expr.specs.declared.part.Part.{Part}
-use Rattle.shade_parse_expr.specs.declared.part.Listing.{Listing}
-use Rattle.shade_parse_expr.specs.Operators.{found, factor_of, term_of, Closing}
+use Rattle.shade_cursor.specs.declared.part.Part.{Part}
+use Rattle.shade_cursor.specs.declared.part.Listing.{Listing}
+use Rattle.shade_cursor.specs.Operators.{found, factor_of, term_of, Closing}
 use Rattle.shade_parse_expr.specs.Parts.{ReadsTree, ReadsList}
-use Rattle.shade_parse_expr.proofs.Tokens.{Told, told, untold, pair}
-use Rattle.shade_parse_expr.proofs.Stands.{factor_there, factor_here, factor_low, factor_none, term_there, term_here, term_low, term_none}
+use Rattle.shade_cursor.proofs.Tokens.{Told, told, untold, pair}
+use Rattle.shade_cursor.proofs.Stands.{factor_there, factor_here, factor_low, factor_none, term_there, term_here, term_low, term_none}
 use Rattle.shade_parse_expr.proofs.Trees.{count_join, counted_all}
 use Rattle.shade_parse_expr.proofs.Turns.{ListTurn}
 use Rattle.shade_parse_expr.proofs.Listings.{list_begin, list_close, list_comma_close, list_item_fails, list_more, list_stuck}

@@ -13,15 +13,16 @@ use Rattle.shade_ast.specs.Nodes.{expr_nodes}
 use Rattle.shade_ast.specs.Expressions.{Relational, Unary}
 use Rattle.shade_ast.specs.Reads.{Reads, Fails}
 use Rattle.shade_ast.proofs.Stages.{Stage, begin}
-use Rattle.shade_ast.proofs.Tails.{Tail, Leftward, left_first}
+use Rattle.shade_ast.specs.Chains.{Tail}
+use Rattle.shade_ast.proofs.Tails.{Leftward, left_first}
 use Rattle.shade_ast.proofs.ShapeLaws.{grows_here, grows_trans}
-use Rattle.shade_parse_expr.specs.declared.part.Part.{Part}
-use Rattle.shade_parse_expr.specs.declared.part.Listing.{Listing}
-use Rattle.shade_parse_expr.specs.declared.part.Fault.{Fault}
-use Rattle.shade_parse_expr.specs.declared.part.Fault.TheVariants as fault
+use Rattle.shade_cursor.specs.declared.part.Part.{Part}
+use Rattle.shade_cursor.specs.declared.part.Listing.{Listing}
+use Rattle.shade_cursor.specs.declared.part.Fault.{Fault}
+use Rattle.shade_cursor.specs.declared.part.Fault.TheVariants as fault
 use Rattle.shade_parse_expr.specs.Parts.{Counted, ReadsTree, ReadsList, Faults}
-use Rattle.shade_parse_expr.specs.declared.operators.Joint.{Joint}
-use Rattle.shade_parse_expr.specs.declared.operators.Joint.TheVariants as joint
+use Rattle.shade_cursor.specs.declared.operators.Joint.{Joint}
+use Rattle.shade_cursor.specs.declared.operators.Joint.TheVariants as joint
 use Rattle.shade_parse_expr.specs.Rests.{is_bare, JoinPart, joint_rank}
 use Rattle.shade_parse_expr.proofs.Trees.{Tree, tree_of, reads_tree, tree_grows, tree_chain, counted_here, built_infix, built_prefix}
 use Rattle.shade_parse_expr.proofs.Turns.{Turn, stage_grows, fault_on, no_memory}

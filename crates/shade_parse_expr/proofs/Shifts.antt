@@ -8,12 +8,13 @@ use Rattle.shade_ast.specs.Lexemes.{Lexeme, Word, Mark, Adjacent}
 use Rattle.shade_ast.specs.Shapes.{ExprShape, infixed, named, place_of}
 use Rattle.shade_ast.specs.Expressions.{Additive, Relational, Shift, Unary}
 use Rattle.shade_ast.specs.Reads.{Near, Reads, Fails, rank, rank_of}
-use Rattle.shade_ast.proofs.Stages.{Stage, After, Then, Ends, Closes, near_append, near_get, one_token, begin, change, consume, consume_then, phrase, phrase_fails, finish, finish_ends, ends_stops, stuck, closes_end}
+use Rattle.shade_ast.proofs.Stages.{Stage, Closes, near_append, near_get, one_token, begin, change, consume, consume_then, phrase, phrase_fails, finish, finish_ends, ends_stops, stuck, closes_end}
+use Rattle.shade_ast.specs.Chains.{After, Then, Ends}
 use Rattle.shade_ast.proofs.Firsts.{First, BeginsExpr, shift_first}
 use Rattle.shade_ast.proofs.Placed.{some_place}
-use Rattle.shade_parse_expr.specs.Operators.{found, relation_of, Behind, ComparisonAt, one_token as one_sign, two_tokens, ShiftAt, to_left, to_right}
+use Rattle.shade_cursor.specs.Operators.{found, relation_of, Behind, ComparisonAt, one_token as one_sign, two_tokens, ShiftAt, to_left, to_right}
 use Rattle.shade_parse_expr.specs.Rests.{is_bare, Comparison, plain, greater_equal, Compared, not_compared, compared, Shifting, leftwards, rightwards, Shifted, not_shifted, shifted}
-use Rattle.shade_parse_expr.proofs.Tokens.{pair, op_one, Told, told, untold}
+use Rattle.shade_cursor.proofs.Tokens.{pair, op_one, Told, told, untold}
 use Rattle.shade_parse_expr.proofs.Layers.{shift_there, shift_back, comparison_there, comparison_back}
 use Rattle.shade_parse_expr.proofs.Ranks.{after_place, compared_stops, shifted_stops, relation_rank, some_unary, some_shift, take_left, take_right}
 use Rattle.shade_parse_expr.proofs.Chains.{then_reads, then_fails, then_reads_by, then_fails_by}

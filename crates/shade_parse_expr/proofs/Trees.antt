@@ -1,9 +1,7 @@
 -- Trees that were read, with the numbers of their nodes and names.
-use Rattle.std.proofs.Common.{◌≡◌, refl, sym, ap, ◌∙◌, subst, ℕ, ◌+◌, ◌<◌, ◌≤◌, max, Bool, true, false, List, [], ◌∷◌, ◌++◌, length, map, arith, append_assoc, Some, slice_get}
+use Rattle.std.proofs.Common.{◌≡◌, refl, sym, ap, ◌∙◌, subst, ℕ, ◌+◌, ◌<◌, ◌≤◌, max, Bool, true, false, List, [], ◌∷◌, ◌++◌, length, map, arith, append_assoc, Some, slice_get, get_or}
 use Rattle.std.specs.Prelude.{slice_index_or}
-use Rattle.std.proofs.lemmas.List.{append-nil}
-use Rattle.std.proofs.Common.{get_or}
-use Rattle.std.proofs.lemmas.List.{get_or_append_left}
+use Rattle.std.proofs.lemmas.List.{append-nil, get_or_append_left}
 use Rattle.std.proofs.lemmas.Option.{slice_get_within, get_or_from_slice_get, slice_get-get_or}
 use Rattle.shade_base.specs.declared.place.Place.{Place}
 use Rattle.shade_lex.specs.declared.token.Suffix.{Suffix}
@@ -24,7 +22,7 @@ use Rattle.shade_ast.specs.Reads.{Reads}
 use Rattle.shade_ast.proofs.ExprLayers.{kind_shape, kind_count, expr_is, expr_count, shape-Infix, shape-Prefix, shape-Member, shape-Index, shape-Call, shape-Template, shape-Name, shape-Number, shape-True, shape-False, shape-Paren, needs-Infix, needs-Prefix, needs-Member, needs-Index, needs-Call, needs-Template, needs-Name, needs-Number, needs-True, needs-False, needs-Paren}
 use Rattle.shade_ast.proofs.ExprNodes.{kind_numbers, expr_numbers, nodes-Infix, nodes-Prefix, nodes-Member, nodes-Index, nodes-Call, nodes-Template, nodes-Name, nodes-Number, nodes-True, nodes-False, nodes-Paren}
 use Rattle.shade_ast.proofs.ShapeLaws.{expr_grows, length_grows}
-use Rattle.shade_parse_expr.specs.declared.part.Part.{Part}
+use Rattle.shade_cursor.specs.declared.part.Part.{Part}
 use Rattle.shade_parse_expr.specs.Rests.{is_bare}
 use Rattle.shade_parse_expr.specs.Parts.{Counted, ReadsTree}
 

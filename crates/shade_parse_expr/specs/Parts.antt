@@ -6,10 +6,10 @@ use Rattle.shade_ast.specs.Shaped.{expr_shape}
 use Rattle.shade_ast.specs.Needs.{most_of, expr_needs}
 use Rattle.shade_ast.specs.Nodes.{joined_of, expr_nodes, CountFrom}
 use Rattle.shade_ast.specs.Reads.{Reads, Fails}
-use Rattle.shade_parse_expr.specs.declared.part.Part.{Part}
-use Rattle.shade_parse_expr.specs.declared.part.Listing.{Listing}
-use Rattle.shade_parse_expr.specs.declared.part.Fault.{Fault}
-use Rattle.shade_parse_expr.specs.declared.part.Fault.TheVariants as fault
+use Rattle.shade_cursor.specs.declared.part.Part.{Part}
+use Rattle.shade_cursor.specs.declared.part.Listing.{Listing}
+use Rattle.shade_cursor.specs.declared.part.Fault.{Fault}
+use Rattle.shade_cursor.specs.declared.part.Fault.TheVariants as fault
 use Rattle.shade_parse_expr.specs.Rests.{is_bare}
 
 -- The nodes of a tree are some that have their numbers already, and those that are counted from one number to another.

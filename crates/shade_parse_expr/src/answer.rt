@@ -5,10 +5,10 @@ ghost use Rattle.shade_ast.specs.Lexemes.{lexemes};
 ghost use Rattle.shade_ast.specs.Names.{Grows};
 ghost use Rattle.shade_parse_expr.specs.Answers.{IsFault, IsPhrase};
 
-use crate::fault::{SyntaxFault, fault_of};
 use crate::goal::{Goal, phrase};
-use crate::pieces::pieces_of;
 use shade_ast::{Expr, Names};
+use shade_cursor::fault::{SyntaxFault, fault_of};
+use shade_cursor::pieces::pieces_of;
 use shade_lex::{TemplatePairs, Tokens};
 use std::alloc::Global;
 

@@ -9,23 +9,24 @@ ghost use Rattle.shade_ast.specs.Nodes.{expr_nodes};
 ghost use Rattle.shade_ast.specs.Repeats.{Listed, MaybeListed};
 ghost use Rattle.shade_ast.specs.Shaped.{expr_shape};
 ghost use Rattle.shade_ast.specs.Expressions.{Additive, Call, Expression, LeftSide, LeftSingular, Multiplicative, Primary, Relational, Shift, Singular, TypeName, Unary};
-ghost use Rattle.shade_ast.proofs.LeftLaws.{AccessStep, IndexStep, LeftFirst, MemberStep};
-ghost use Rattle.shade_ast.proofs.Lists.{Closed};
-ghost use Rattle.shade_ast.proofs.Tails.{Tail};
-ghost use Rattle.shade_parse_expr.specs.Operators.{Closing, Joins, NoLeaf, StandsWord};
+ghost use Rattle.shade_ast.specs.Steps.{AccessStep, IndexStep, LeftFirst, MemberStep};
+ghost use Rattle.shade_ast.specs.Chains.{Closed, Tail};
+ghost use Rattle.shade_cursor.specs.Operators.{Closing, Joins, NoLeaf, StandsWord};
 ghost use Rattle.shade_parse_expr.specs.Parts.{Faults, ReadsList, ReadsTree};
 ghost use Rattle.shade_parse_expr.specs.Rests.{Called, Compared, JoinPart, Joining, is_bare, joint_rank};
-ghost use Rattle.shade_parse_expr.specs.Shown.{lexemes};
+ghost use Rattle.shade_cursor.specs.Shown.{lexemes};
 
-use crate::builds::{call, index, infix, leaf, member, number, paren, prefix, push, template};
-use crate::operators::{
+use shade_ast::{Expr, ExprKind, Keyword, Names, Sign};
+use shade_base::Place;
+use shade_cursor::builds::{
+    call, index, infix, leaf, member, number, paren, prefix, push, refuse, template,
+};
+use shade_cursor::operators::{
     Joint, comparison_at, factor_at, infix_of, joins, joint_at, left_prefix_at, prefix_at,
     shift_at, sign_of, term_at,
 };
-use crate::part::{Fault, Listing, Part};
-use crate::piece::{Piece, key_at, mark_at, number_at, word_at};
-use shade_ast::{Expr, ExprKind, Keyword, Names, Sign};
-use shade_base::Place;
+use shade_cursor::part::{Fault, Listing, Part};
+use shade_cursor::piece::{Piece, key_at, mark_at, number_at, word_at};
 use sqlite_items::Items;
 use std::alloc::Global;
 
@@ -83,7 +84,10 @@ fn joined(
 {
     let mut left = first;
     'joints: while let Some(place) = mark_at(pieces, left.end, sign_of(joint)) {
-        let right = join_part(alloc, pieces, names, joint, left.end + 1, left.node)?;
+        let right = match join_part(alloc, pieces, names, joint, left.end + 1, left.node) {
+            Ok(right) => right,
+            Err(fault) => return refuse(fault, left),
+        };
         left = infix(alloc, left, infix_of(joint), place, right)?;
     }
     Ok(left)
@@ -138,7 +142,10 @@ fn relational(
     let Some((operator, place, next)) = shift_at(pieces, left.end, left.bare) else {
         return compared(alloc, pieces, names, left);
     };
-    let right = unary(alloc, pieces, names, next, left.node)?;
+    let right = match unary(alloc, pieces, names, next, left.node) {
+        Ok(right) => right,
+        Err(fault) => return refuse(fault, left),
+    };
     let left = infix(alloc, left, operator, place, right)?;
     compared(alloc, pieces, names, left)
 }
@@ -161,7 +168,10 @@ fn compared(alloc: Global, pieces: &[Piece], names: &mut Names, left: Part) -> R
     let Some((operator, place, next)) = comparison_at(pieces, left.end) else {
         return Ok(left);
     };
-    let right = shift(alloc, pieces, names, next, left.node)?;
+    let right = match shift(alloc, pieces, names, next, left.node) {
+        Ok(right) => right,
+        Err(fault) => return refuse(fault, left),
+    };
     infix(alloc, left, operator, place, right)
 }
 
@@ -192,9 +202,12 @@ fn shift(
         if mark_at(pieces, left.end, Sign::Greater).is_none() {
             return Ok(left);
         }
-        return Err(Fault::Unexpected(left.end + 1));
+        return refuse(Fault::Unexpected(left.end + 1), left);
     };
-    let right = unary(alloc, pieces, names, next, left.node)?;
+    let right = match unary(alloc, pieces, names, next, left.node) {
+        Ok(right) => right,
+        Err(fault) => return refuse(fault, left),
+    };
     infix(alloc, left, operator, place, right)
 }
 
@@ -219,7 +232,10 @@ fn additive(
 {
     let mut left = multiplicative(alloc, pieces, names, from, node)?;
     'terms: while let Some((operator, place)) = term_at(pieces, left.end) {
-        let right = multiplicative(alloc, pieces, names, left.end + 1, left.node)?;
+        let right = match multiplicative(alloc, pieces, names, left.end + 1, left.node) {
+            Ok(right) => right,
+            Err(fault) => return refuse(fault, left),
+        };
         left = infix(alloc, left, operator, place, right)?;
     }
     Ok(left)
@@ -246,7 +262,10 @@ fn multiplicative(
 {
     let mut left = unary(alloc, pieces, names, from, node)?;
     'factors: while let Some((operator, place)) = factor_at(pieces, left.end) {
-        let right = unary(alloc, pieces, names, left.end + 1, left.node)?;
+        let right = match unary(alloc, pieces, names, left.end + 1, left.node) {
+            Ok(right) => right,
+            Err(fault) => return refuse(fault, left),
+        };
         left = infix(alloc, left, operator, place, right)?;
     }
     Ok(left)
@@ -349,9 +368,12 @@ fn by_name(
     ensures names { IfOk result (λ p. length names.new + whole.end ≤ length names.old + p.end) }
 {
     let Some((text, place)) = word_at(pieces, whole.end + 1) else {
-        return Err(Fault::Unexpected(whole.end + 1));
+        return refuse(Fault::Unexpected(whole.end + 1), whole);
     };
-    let name = number(names, text)?;
+    let name = match number(names, text) {
+        Ok(name) => name,
+        Err(fault) => return refuse(fault, whole),
+    };
     member(alloc, whole, dot, place, name)
 }
 
@@ -376,9 +398,12 @@ fn by_index(
     ensures node { IfOk result (λ p. p.node + whole.end ≤ whole.node + p.end) }
     ensures names { IfOk result (λ p. length names.new + whole.end ≤ length names.old + p.end) }
 {
-    let at = expression(alloc, pieces, names, whole.end + 1, whole.node)?;
+    let at = match expression(alloc, pieces, names, whole.end + 1, whole.node) {
+        Ok(at) => at,
+        Err(fault) => return refuse(fault, whole),
+    };
     if mark_at(pieces, at.end, Sign::CloseBracket).is_none() {
-        return Err(Fault::Unexpected(at.end));
+        return refuse(Fault::Unexpected(at.end), (whole, at));
     }
     index(alloc, whole, bracket, at)
 }
@@ -442,7 +467,7 @@ fn in_parens(
     };
     let inner = expression(alloc, pieces, names, from + 1, node)?;
     if mark_at(pieces, inner.end, Sign::Close).is_none() {
-        return Err(Fault::Unexpected(inner.end));
+        return refuse(Fault::Unexpected(inner.end), inner);
     }
     paren(alloc, place, inner)
 }
@@ -495,7 +520,7 @@ pub fn call_only(
 {
     let callee = type_name(alloc, pieces, names, from, node)?;
     if mark_at(pieces, callee.end, Sign::Open).is_none() {
-        return Err(Fault::Unexpected(callee.end));
+        return refuse(Fault::Unexpected(callee.end), callee);
     }
     called(alloc, pieces, names, callee)
 }
@@ -515,7 +540,10 @@ fn called(alloc: Global, pieces: &[Piece], names: &mut Names, callee: Part) -> R
     ensures node { IfOk result (λ p. p.node + callee.end ≤ callee.node + p.end) }
     ensures names { IfOk result (λ p. length names.new + callee.end ≤ length names.old + p.end) }
 {
-    let list = arguments(alloc, pieces, names, callee.end + 1, callee.node)?;
+    let list = match arguments(alloc, pieces, names, callee.end + 1, callee.node) {
+        Ok(list) => list,
+        Err(fault) => return refuse(fault, callee),
+    };
     call(alloc, callee, list)
 }
 
@@ -712,7 +740,7 @@ fn left_first(
     };
     let inner = left_side(alloc, pieces, names, from + 1, node)?;
     if mark_at(pieces, inner.end, Sign::Close).is_none() {
-        return Err(Fault::Unexpected(inner.end));
+        return refuse(Fault::Unexpected(inner.end), inner);
     }
     paren(alloc, place, inner)
 }

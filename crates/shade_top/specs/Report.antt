@@ -16,8 +16,8 @@ use Rattle.shade_top.specs.Text.{Refusal, Lex, Unexpected, TooDeep, IsRefused, P
 use Rattle.shade_lex.specs.declared.fault.LexFault.{LexFault}
 use Rattle.shade_lex.specs.declared.fault.LexFault.TheVariants as lex_fault
 use Rattle.shade_lex.specs.declared.piece.Problem.TheVariants as problem
-use Rattle.shade_parse_expr.specs.declared.fault.SyntaxFault.{SyntaxFault}
-use Rattle.shade_parse_expr.specs.declared.fault.SyntaxFault.TheVariants as syntax_fault
+use Rattle.shade_cursor.specs.declared.fault.SyntaxFault.{SyntaxFault}
+use Rattle.shade_cursor.specs.declared.fault.SyntaxFault.TheVariants as syntax_fault
 use Rattle.shade_top.specs.declared.report.Report.{Report}
 use Rattle.shade_top.specs.declared.request.Request.{Request}
 use Rattle.shade_top.specs.declared.request.Request.TheVariants as request

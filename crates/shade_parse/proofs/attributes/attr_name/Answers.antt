@@ -1,6 +1,6 @@
 use Rattle.std.proofs.Common.{refl, arith}
 use Rattle.shade_ast.specs.Statements.{Name, AttrName}
-use Rattle.shade_parse_expr.specs.Shown.{lexemes}
+use Rattle.shade_cursor.specs.Shown.{lexemes}
 use Rattle.shade_parse_expr.proofs.Turns.{errs, fault_on}
 use Rattle.shade_parse.proofs.Faulty.{within}
 use Rattle.shade_parse.proofs.AttributeLaws.{attr_diagnostic_reads, attr_const_reads, attr_name_fails, attr_name_reads}

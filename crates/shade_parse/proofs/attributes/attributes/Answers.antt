@@ -1,6 +1,6 @@
 use Rattle.shade_ast.specs.Repeats.{Many}
 use Rattle.shade_ast.specs.Statements.{Attribute}
-use Rattle.shade_parse_expr.specs.Shown.{lexemes}
+use Rattle.shade_cursor.specs.Shown.{lexemes}
 use Rattle.shade_parse_expr.proofs.Turns.{errs, fault_on}
 use Rattle.shade_parse.proofs.AttributeLaws.{attributes_fail}
 use Rattle.shade_parse.proofs.AttributeTrees.{attrs_tree, attr_turn}

@@ -2,12 +2,11 @@ use Rattle.std.proofs.Common.{refl, ◌+◌, arith}
 use Rattle.shade_ast.specs.declared.lexeme.Sign.TheVariants as sign
 use Rattle.shade_ast.specs.Lexemes.{Mark}
 use Rattle.shade_ast.specs.Statements.{AttrArguments}
-use Rattle.shade_parse_expr.specs.Shown.{lexemes}
+use Rattle.shade_cursor.specs.Shown.{lexemes}
 use Rattle.shade_parse_expr.proofs.Turns.{errs}
 use Rattle.shade_parse.proofs.Faulty.{within, fault_in}
-use Rattle.shade_parse.proofs.Openings.{arguments_opens, opened_fails}
+use Rattle.shade_parse.proofs.Openings.{arguments_opens, opened_fails, Arguments}
 use Rattle.shade_parse.proofs.AttributeTrees.{arguments_tree}
-use Rattle.shade_parse.proofs.Openings.{Arguments}
 use Rattle.shade_parse.proofs.attributes.maybe_arguments.Goals as goal
 
 pub returns-in_err-list-clause-tree : goal.returns-in_err-list-clause-tree

@@ -2,7 +2,7 @@ use Rattle.std.proofs.Common.{refl, ◌+◌, arith}
 use Rattle.shade_ast.specs.declared.lexeme.Sign.TheVariants as sign
 use Rattle.shade_ast.specs.Statements.{Name}
 use Rattle.shade_parse.specs.Rests.{Ending, SpaceEnd}
-use Rattle.shade_parse_expr.specs.Shown.{lexemes}
+use Rattle.shade_cursor.specs.Shown.{lexemes}
 use Rattle.shade_parse_expr.proofs.Turns.{errs, fault_on, fails_here}
 use Rattle.shade_parse.proofs.Faulty.{within, reads_to, fault_plain}
 use Rattle.shade_parse.proofs.BindingTrees.{access_tree}

@@ -4,7 +4,7 @@ use Rattle.shade_ast.specs.Lexemes.{Mark}
 use Rattle.shade_ast.specs.Statements.{Name, OfType, HasValue}
 use Rattle.shade_ast.proofs.ShapeLaws.{grows_trans}
 use Rattle.shade_parse.specs.Rests.{Bound}
-use Rattle.shade_parse_expr.specs.Shown.{lexemes}
+use Rattle.shade_cursor.specs.Shown.{lexemes}
 use Rattle.shade_parse_expr.proofs.Turns.{errs, fault_on}
 use Rattle.shade_parse.proofs.Faulty.{within, fault_of}
 use Rattle.shade_parse.proofs.Widens.{widen, widen_maybe, named_keeps, expr_keeps}

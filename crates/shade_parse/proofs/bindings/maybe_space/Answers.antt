@@ -3,7 +3,7 @@ use Rattle.shade_ast.specs.declared.lexeme.Sign.TheVariants as sign
 use Rattle.shade_ast.specs.Lexemes.{Mark}
 use Rattle.shade_ast.specs.Statements.{Name, VarSpace}
 use Rattle.shade_parse.specs.Rests.{SpaceEnd}
-use Rattle.shade_parse_expr.specs.Shown.{lexemes}
+use Rattle.shade_cursor.specs.Shown.{lexemes}
 use Rattle.shade_parse_expr.proofs.Turns.{errs}
 use Rattle.shade_parse.proofs.Faulty.{within, fault_in}
 use Rattle.shade_parse.proofs.Widens.{widen, named_keeps}

@@ -2,7 +2,7 @@ use Rattle.std.proofs.Common.{arith}
 use Rattle.shade_ast.specs.declared.lexeme.Sign.TheVariants as sign
 use Rattle.shade_ast.specs.Lexemes.{Mark}
 use Rattle.shade_ast.specs.Statements.{HasValue}
-use Rattle.shade_parse_expr.specs.Shown.{lexemes}
+use Rattle.shade_cursor.specs.Shown.{lexemes}
 use Rattle.shade_parse_expr.proofs.Turns.{errs}
 use Rattle.shade_parse.proofs.Faulty.{fault_at}
 use Rattle.shade_parse.proofs.Widens.{part_there}

@@ -6,7 +6,7 @@ use Rattle.shade_ast.specs.Statements.{Name, Block}
 use Rattle.shade_ast.specs.Declarations.{MemberOf, ResultOf}
 use Rattle.shade_ast.proofs.ShapeLaws.{grows_trans}
 use Rattle.shade_parse.specs.Rests.{Enclosed, FnRest}
-use Rattle.shade_parse_expr.specs.Shown.{lexemes}
+use Rattle.shade_cursor.specs.Shown.{lexemes}
 use Rattle.shade_parse_expr.proofs.Turns.{errs, fault_on, fails_here}
 use Rattle.shade_parse.proofs.Faulty.{within, fault_of}
 use Rattle.shade_parse.proofs.Widens.{widen, widen_maybe, named_keeps}

@@ -3,7 +3,7 @@ use Rattle.shade_ast.specs.declared.lexeme.Sign.TheVariants as sign
 use Rattle.shade_ast.specs.Statements.{Name}
 use Rattle.shade_ast.specs.Declarations.{RuleOf}
 use Rattle.shade_parse.specs.Rests.{Ending, DiagnosticRest}
-use Rattle.shade_parse_expr.specs.Shown.{lexemes}
+use Rattle.shade_cursor.specs.Shown.{lexemes}
 use Rattle.shade_parse_expr.proofs.Turns.{errs, fault_on, fails_here}
 use Rattle.shade_parse.proofs.Faulty.{within, fault_plain}
 use Rattle.shade_parse.proofs.Widens.{widen, named_keeps}

@@ -4,7 +4,7 @@ use Rattle.shade_ast.specs.Repeats.{Listed}
 use Rattle.shade_ast.specs.Statements.{Name}
 use Rattle.shade_ast.specs.Declarations.{DirectiveOf}
 use Rattle.shade_parse.specs.Rests.{Enclosed, DiagnosticRest}
-use Rattle.shade_parse_expr.specs.Shown.{lexemes}
+use Rattle.shade_cursor.specs.Shown.{lexemes}
 use Rattle.shade_parse_expr.proofs.Turns.{errs, fault_on, fails_here}
 use Rattle.shade_parse.proofs.Faulty.{within}
 use Rattle.shade_ast.specs.Shapes.{requires_directive, enable_directive}

@@ -5,7 +5,7 @@ use Rattle.shade_ast.specs.Repeats.{Many}
 use Rattle.shade_ast.specs.Expressions.{TypeName}
 use Rattle.shade_ast.specs.Statements.{Attribute}
 use Rattle.shade_ast.specs.Declarations.{ResultOf}
-use Rattle.shade_parse_expr.specs.Shown.{lexemes}
+use Rattle.shade_cursor.specs.Shown.{lexemes}
 use Rattle.shade_parse_expr.proofs.Turns.{errs}
 use Rattle.shade_parse.proofs.Faulty.{within, fault_in}
 use Rattle.shade_parse.proofs.Widens.{widen, attrs_keep, part_reads}

@@ -3,7 +3,7 @@ use Rattle.shade_ast.specs.Repeats.{Many}
 use Rattle.shade_ast.specs.Statements.{Name, Attribute, OfType}
 use Rattle.shade_ast.specs.Declarations.{MemberOf}
 use Rattle.shade_ast.proofs.ShapeLaws.{grows_trans}
-use Rattle.shade_parse_expr.specs.Shown.{lexemes}
+use Rattle.shade_cursor.specs.Shown.{lexemes}
 use Rattle.shade_parse_expr.proofs.Turns.{errs, fault_on}
 use Rattle.shade_parse.proofs.Faulty.{within}
 use Rattle.shade_parse.proofs.Widens.{widen, named_keeps, attrs_keep}

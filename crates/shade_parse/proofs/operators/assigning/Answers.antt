@@ -1,5 +1,5 @@
 use Rattle.std.proofs.Common.{sym, ◌+◌, [], arith}
-use Rattle.shade_parse_expr.specs.Shown.{lexemes}
+use Rattle.shade_cursor.specs.Shown.{lexemes}
 use Rattle.shade_parse_expr.proofs.Turns.{fails_here}
 use Rattle.shade_parse.specs.Updates.{Assigning}
 use Rattle.shade_parse.proofs.AssigningLaws.{one_reads, none_fails, shift_second_fails, shift_third_fails, shift_reads}

@@ -5,8 +5,8 @@ use Rattle.shade_ast.specs.Repeats.{Many, Listed}
 use Rattle.shade_ast.specs.Statements.{Attribute, SimpleStatement, UpdateOf, Statement, Selects, Block as BlockPhrase}
 use Rattle.shade_parse.specs.Follows.{Above, Anything, Free, Closing, Selected}
 use Rattle.shade_parse.specs.StatementParts.{ValueEnd, UntilValue, UntilSimple, UntilUpdate, Leaves, SimpleEnd, Plain, Compound, Braced, Guards, AllArms, ForHead, ForRest, ColonBlock, OneClause, SwitchRest, LoopRest, LoopEnds, ContinuingRest, LastStatements}
-use Rattle.shade_parse_expr.specs.Shown.{lexeme, lexemes}
-use Rattle.shade_parse_expr.proofs.Tokens.{isnt}
+use Rattle.shade_cursor.specs.Shown.{lexeme, lexemes}
+use Rattle.shade_cursor.proofs.Tokens.{isnt}
 use Rattle.shade_parse.proofs.Handing.{errs, answers, fault_by, ranked, unranked, unranked_read, ranked_read, no_memory, fails_here, unexpected, expr_read}
 use Rattle.shade_parse.proofs.Fors.{for_stuck, initial_fails, condition_fails, update_fails, for_head_tree}
 use Rattle.shade_parse.proofs.plain.for_header.Goals as goal

@@ -3,7 +3,7 @@ use Rattle.std.proofs.lemmas.List.{length-map}
 use Rattle.shade_ast.specs.Repeats.{Listed}
 use Rattle.shade_ast.specs.Statements.{Selects}
 use Rattle.shade_parse.specs.Follows.{Above, Selected}
-use Rattle.shade_parse_expr.specs.Shown.{lexeme, lexemes}
+use Rattle.shade_cursor.specs.Shown.{lexeme, lexemes}
 use Rattle.shade_parse.proofs.Handing.{errs, fault_by}
 use Rattle.shade_parse.proofs.SelectorsLaws.{selectors_begin, selectors_fail, selectors_last, selectors_comma_last, selectors_more}
 use Rattle.shade_parse.proofs.plain.selectors.Goals as goal

@@ -3,8 +3,8 @@ use Rattle.std.proofs.lemmas.List.{length-map}
 use Rattle.shade_ast.specs.Expressions.{Expression}
 use Rattle.shade_parse.specs.Follows.{Above, Anything}
 use Rattle.shade_parse.specs.StatementParts.{ValueEnd}
-use Rattle.shade_parse_expr.specs.Shown.{lexeme, lexemes}
-use Rattle.shade_parse_expr.proofs.Tokens.{isnt}
+use Rattle.shade_cursor.specs.Shown.{lexeme, lexemes}
+use Rattle.shade_cursor.proofs.Tokens.{isnt}
 use Rattle.shade_parse.proofs.Handing.{errs, fault_by, ranked, fails_here, expr_read}
 use Rattle.shade_parse.proofs.Plains.{value_end_fails, value_end_open, value_end_tree}
 use Rattle.shade_parse.proofs.plain.value_end.Goals as goal

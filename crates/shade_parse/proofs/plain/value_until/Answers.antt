@@ -3,8 +3,8 @@ use Rattle.std.proofs.lemmas.List.{length-map}
 use Rattle.shade_ast.specs.Expressions.{Expression}
 use Rattle.shade_parse.specs.Follows.{Above, Anything}
 use Rattle.shade_parse.specs.StatementParts.{UntilValue}
-use Rattle.shade_parse_expr.specs.Shown.{lexeme, lexemes}
-use Rattle.shade_parse_expr.proofs.Tokens.{isnt}
+use Rattle.shade_cursor.specs.Shown.{lexeme, lexemes}
+use Rattle.shade_cursor.proofs.Tokens.{isnt}
 use Rattle.shade_parse.proofs.Handing.{errs, fault_by, ranked, fails_here}
 use Rattle.shade_parse.proofs.Plains.{value_none, value_fails, value_open, value_some}
 use Rattle.shade_parse.proofs.plain.value_until.Goals as goal

@@ -1,6 +1,6 @@
 use Rattle.std.proofs.Common.{◌+◌, [], arith}
 use Rattle.shade_parse.specs.Rests.{Ending}
-use Rattle.shade_parse_expr.specs.Shown.{lexemes}
+use Rattle.shade_cursor.specs.Shown.{lexemes}
 use Rattle.shade_parse_expr.proofs.Turns.{fails_here}
 use Rattle.shade_parse.proofs.Faulty.{within, reads_to}
 use Rattle.shade_parse.proofs.Endings.{ending_now, ending_stuck, ending_reads, ending_open}

@@ -1,7 +1,7 @@
 use Rattle.std.proofs.Common.{arith}
 use Rattle.shade_ast.specs.Statements.{Name}
 use Rattle.shade_ast.proofs.Placed.{name_fails}
-use Rattle.shade_parse_expr.specs.Shown.{lexemes}
+use Rattle.shade_cursor.specs.Shown.{lexemes}
 use Rattle.shade_parse_expr.proofs.Turns.{fails_here}
 use Rattle.shade_parse.proofs.Faulty.{within}
 use Rattle.shade_parse.proofs.BindingTrees.{name_tree}

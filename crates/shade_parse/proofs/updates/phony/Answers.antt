@@ -1,7 +1,7 @@
 use Rattle.std.proofs.Common.{◌+◌, arith}
 use Rattle.shade_ast.specs.Expressions.{Expression}
 use Rattle.shade_ast.specs.Statements.{UpdateOf}
-use Rattle.shade_parse_expr.specs.Shown.{lexemes}
+use Rattle.shade_cursor.specs.Shown.{lexemes}
 use Rattle.shade_parse_expr.proofs.Turns.{errs, fault_on, fails_here}
 use Rattle.shade_parse.proofs.Faulty.{within}
 use Rattle.shade_parse.proofs.UpdateLaws.{drops_stuck, drops_fails}

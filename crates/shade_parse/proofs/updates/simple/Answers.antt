@@ -1,7 +1,7 @@
 use Rattle.std.proofs.Common.{sym, ◌+◌, arith}
 use Rattle.shade_ast.specs.Statements.{SimpleStatement, UpdateOf, Var}
-use Rattle.shade_parse_expr.specs.Shown.{lexemes}
-use Rattle.shade_parse_expr.proofs.Tokens.{told_none, told_some}
+use Rattle.shade_cursor.specs.Shown.{lexemes}
+use Rattle.shade_cursor.proofs.Tokens.{told_none, told_some}
 use Rattle.shade_parse_expr.proofs.Turns.{errs, fault_on}
 use Rattle.shade_parse.specs.Rests.{Bound}
 use Rattle.shade_parse.proofs.Faulty.{within}

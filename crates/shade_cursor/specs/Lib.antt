@@ -1,0 +1,6 @@
+pub mod Shown
+pub mod TokenPlaces
+pub mod Operators
+pub mod Passes
+pub mod Depths
+pub mod Walks
