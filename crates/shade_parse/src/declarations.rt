@@ -4,25 +4,25 @@ ghost use Rattle.std.specs.Prelude.{◌≡◌, ◌+◌, ◌<◌, ◌≤◌, ◌^
 ghost use Rattle.shade_ast.specs.Names.{Grows};
 ghost use Rattle.shade_ast.specs.Declarations.{Declaration};
 ghost use Rattle.shade_ast.specs.Chains.{Headed};
-ghost use Rattle.shade_parse.specs.Readings.{decl_kind_seen, decl_seen, first_of, ReadsOf};
+ghost use Rattle.shade_parse.specs.Parts.{decl_kind_seen, decl_seen, fn_seen, override_seen};
+ghost use Rattle.shade_parse_simple.specs.Readings.{first_of, ReadsOf};
 ghost use Rattle.shade_parse.specs.Rests.{AliasRest, AssertRest, ConstRest, FnRest, OverrideRest, PlainAt, StructRest};
-ghost use Rattle.shade_parse.specs.Parts.{fn_seen, override_seen};
 ghost use Rattle.shade_parse_expr.specs.Parts.{Faults};
 ghost use Rattle.shade_cursor.specs.Shown.{lexemes};
 
-use crate::attributes::attributes;
-use crate::bindings::{bound, maybe_type, maybe_value, var};
-use crate::members::{first_place, maybe_result, members, parameters};
-use crate::read::Read;
-use crate::statements::block;
-use crate::tokens::name;
+use crate::members::{maybe_result, members, parameters};
 use shade_ast::{
     Attr, Block, Decl, DeclKind, Expr, FnResult, Keyword, Member, Named, Names, Sign, Var,
 };
 use shade_base::Place;
-use shade_parse_expr::parse::{expression, type_name};
 use shade_cursor::part::Fault;
 use shade_cursor::piece::{Piece, key_at, mark_at};
+use shade_parse_expr::parse::{expression, type_name};
+use shade_parse_simple::attributes::{attributes, first_place};
+use shade_parse_simple::bindings::{bound, maybe_type, maybe_value, var};
+use shade_parse_simple::read::Read;
+use shade_parse_simple::tokens::name;
+use shade_parse_stmt::statements::block;
 use sqlite_items::Items;
 use std::alloc::Global;
 

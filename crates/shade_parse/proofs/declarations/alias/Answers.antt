@@ -4,8 +4,8 @@ use Rattle.shade_ast.specs.Statements.{Name}
 use Rattle.shade_parse.specs.Rests.{AliasRest}
 use Rattle.shade_cursor.specs.Shown.{lexemes}
 use Rattle.shade_parse_expr.proofs.Turns.{errs, fault_on, fails_here}
-use Rattle.shade_parse.proofs.Faulty.{within}
-use Rattle.shade_parse.proofs.Widens.{widen, named_keeps, part_reads}
+use Rattle.shade_parse_simple.proofs.Faulty.{within}
+use Rattle.shade_parse_simple.proofs.Widens.{widen, named_keeps, part_reads}
 use Rattle.shade_ast.specs.Shapes.{alias_decl}
 use Rattle.shade_parse.proofs.PlainLaws.{closed_fails, closed_stuck, alias_name_fails, alias_stuck, alias_equal}
 use Rattle.shade_parse.proofs.DeclarationTrees.{alias_tree}

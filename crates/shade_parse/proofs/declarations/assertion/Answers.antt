@@ -3,8 +3,8 @@ use Rattle.shade_ast.specs.Expressions.{Expression}
 use Rattle.shade_parse.specs.Rests.{AssertRest}
 use Rattle.shade_cursor.specs.Shown.{lexemes}
 use Rattle.shade_parse_expr.proofs.Turns.{errs, fault_on, fails_here}
-use Rattle.shade_parse.proofs.Faulty.{within}
-use Rattle.shade_parse.proofs.Widens.{part_reads}
+use Rattle.shade_parse_simple.proofs.Faulty.{within}
+use Rattle.shade_parse_simple.proofs.Widens.{part_reads}
 use Rattle.shade_ast.specs.Shapes.{assert_decl}
 use Rattle.shade_ast.proofs.Stages.{begin}
 use Rattle.shade_parse.proofs.PlainLaws.{closed_fails, closed_stuck}

@@ -1,8 +1,9 @@
 use Rattle.std.proofs.Common.{arith}
-use Rattle.shade_parse.specs.Rests.{Bound, ConstRest}
+use Rattle.shade_parse_simple.specs.Rests.{Bound}
+use Rattle.shade_parse.specs.Rests.{ConstRest}
 use Rattle.shade_cursor.specs.Shown.{lexemes}
 use Rattle.shade_parse_expr.proofs.Turns.{errs, fault_on, fails_here}
-use Rattle.shade_parse.proofs.Faulty.{within}
+use Rattle.shade_parse_simple.proofs.Faulty.{within}
 use Rattle.shade_ast.specs.Shapes.{const_decl}
 use Rattle.shade_ast.proofs.Stages.{begin}
 use Rattle.shade_parse.proofs.PlainLaws.{closed_fails, closed_stuck}

@@ -6,10 +6,11 @@ use Rattle.shade_parse.specs.Rests.{PlainAt, OverrideRest, FnRest}
 use Rattle.shade_parse_expr.specs.Parts.{Faults}
 use Rattle.shade_cursor.specs.Shown.{lexemes}
 use Rattle.shade_parse_expr.proofs.Turns.{errs, answers, fault_on, fails_here}
-use Rattle.shade_parse.proofs.Faulty.{within}
-use Rattle.shade_parse.proofs.Widens.{widen, attrs_keep}
+use Rattle.shade_parse_simple.proofs.Faulty.{within}
+use Rattle.shade_parse_simple.proofs.Widens.{widen, attrs_keep}
 use Rattle.shade_ast.specs.Chains.{Headed}
-use Rattle.shade_parse.specs.Readings.{ReadsOf, decl_seen}
+use Rattle.shade_parse_simple.specs.Readings.{ReadsOf}
+use Rattle.shade_parse.specs.Parts.{decl_seen}
 use Rattle.shade_parse.proofs.DeclarationLaws.{decl_attrs_fail, decl_fn_fails, decl_override_fails, decl_var_fails, decl_var_stuck, decl_plain_fails, decl_stuck}
 use Rattle.shade_parse.proofs.DeclarationTrees.{fn_decl_tree, override_decl_tree, var_decl_tree, decl_plain_tree, no_attrs}
 use Rattle.shade_ast.specs.Shaped.{attr_shapes}

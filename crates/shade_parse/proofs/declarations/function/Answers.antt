@@ -8,9 +8,9 @@ use Rattle.shade_ast.proofs.ShapeLaws.{grows_trans}
 use Rattle.shade_parse.specs.Rests.{Enclosed, FnRest}
 use Rattle.shade_cursor.specs.Shown.{lexemes}
 use Rattle.shade_parse_expr.proofs.Turns.{errs, fault_on, fails_here}
-use Rattle.shade_parse.proofs.Faulty.{within, fault_of}
-use Rattle.shade_parse.proofs.Widens.{widen, widen_maybe, named_keeps}
-use Rattle.shade_parse.specs.Readings.{member_seen}
+use Rattle.shade_parse_simple.proofs.Faulty.{within, fault_of}
+use Rattle.shade_parse_simple.proofs.Widens.{widen, widen_maybe, named_keeps}
+use Rattle.shade_parse.specs.Parts.{member_seen}
 use Rattle.shade_parse.proofs.MemberTrees.{member_keeps, result_keeps}
 use Rattle.shade_parse.proofs.DeclarationLaws.{fn_name_fails, fn_stuck, fn_params_fail, fn_result_fails, fn_body_fails}
 use Rattle.shade_parse.proofs.DeclarationTrees.{fn_tree, enclosed_keeps}

@@ -6,8 +6,8 @@ use Rattle.shade_ast.proofs.ShapeLaws.{grows_trans}
 use Rattle.shade_parse.specs.Rests.{OverrideRest}
 use Rattle.shade_cursor.specs.Shown.{lexemes}
 use Rattle.shade_parse_expr.proofs.Turns.{errs, fault_on, fails_here}
-use Rattle.shade_parse.proofs.Faulty.{within, fault_of}
-use Rattle.shade_parse.proofs.Widens.{widen, widen_maybe, named_keeps, expr_keeps}
+use Rattle.shade_parse_simple.proofs.Faulty.{within, fault_of}
+use Rattle.shade_parse_simple.proofs.Widens.{widen, widen_maybe, named_keeps, expr_keeps}
 use Rattle.shade_parse.proofs.DeclarationLaws.{override_name_fails, override_type_fails, override_value_fails, override_stuck}
 use Rattle.shade_parse.proofs.DeclarationTrees.{override_tree}
 use Rattle.shade_parse.proofs.declarations.overridable.Goals as goal

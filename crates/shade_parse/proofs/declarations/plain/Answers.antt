@@ -2,9 +2,10 @@ use Rattle.std.proofs.Common.{sym, subst, ◌+◌, arith}
 use Rattle.shade_parse.specs.Rests.{AliasRest, ConstRest, AssertRest, StructRest, PlainAt}
 use Rattle.shade_cursor.specs.Shown.{lexemes}
 use Rattle.shade_parse_expr.proofs.Turns.{errs, fault_on, fails_here}
-use Rattle.shade_parse.proofs.Faulty.{within}
+use Rattle.shade_parse_simple.proofs.Faulty.{within}
 use Rattle.shade_ast.specs.Chains.{Headed}
-use Rattle.shade_parse.specs.Readings.{ReadsOf, decl_seen}
+use Rattle.shade_parse_simple.specs.Readings.{ReadsOf}
+use Rattle.shade_parse.specs.Parts.{decl_seen}
 use Rattle.shade_parse.proofs.PlainLaws.{plain_stuck, plain_fails}
 use Rattle.shade_parse.proofs.DeclarationTrees.{plain_tree, empty_tree}
 use Rattle.shade_parse.proofs.declarations.plain.Goals as goal

@@ -6,8 +6,8 @@ use Rattle.shade_ast.specs.Declarations.{MemberOf}
 use Rattle.shade_parse.specs.Rests.{Enclosed, StructRest}
 use Rattle.shade_cursor.specs.Shown.{lexemes}
 use Rattle.shade_parse_expr.proofs.Turns.{errs, fault_on, fails_here}
-use Rattle.shade_parse.proofs.Faulty.{within}
-use Rattle.shade_parse.proofs.Widens.{widen, named_keeps}
+use Rattle.shade_parse_simple.proofs.Faulty.{within}
+use Rattle.shade_parse_simple.proofs.Widens.{widen, named_keeps}
 use Rattle.shade_parse.proofs.PlainLaws.{struct_name_fails, struct_stuck, struct_members_fail}
 use Rattle.shade_parse.proofs.DeclarationLaws.{some_members}
 use Rattle.shade_parse.proofs.DeclarationTrees.{struct_tree}

@@ -2,11 +2,12 @@ use Rattle.std.proofs.Common.{◌+◌, arith}
 use Rattle.shade_ast.specs.declared.lexeme.Sign.TheVariants as sign
 use Rattle.shade_ast.specs.Statements.{Name}
 use Rattle.shade_ast.specs.Declarations.{RuleOf}
-use Rattle.shade_parse.specs.Rests.{Ending, DiagnosticRest}
+use Rattle.shade_parse_simple.specs.Rests.{Ending}
+use Rattle.shade_parse.specs.Rests.{DiagnosticRest}
 use Rattle.shade_cursor.specs.Shown.{lexemes}
 use Rattle.shade_parse_expr.proofs.Turns.{errs, fault_on, fails_here}
-use Rattle.shade_parse.proofs.Faulty.{within, fault_plain}
-use Rattle.shade_parse.proofs.Widens.{widen, named_keeps}
+use Rattle.shade_parse_simple.proofs.Faulty.{within, fault_plain}
+use Rattle.shade_parse_simple.proofs.Widens.{widen, named_keeps}
 use Rattle.shade_parse.proofs.DirectiveLaws.{diagnostic_open, diagnostic_name_fails, diagnostic_comma, diagnostic_rule_fails, diagnostic_ending_fails, diagnostic_stuck}
 use Rattle.shade_parse.proofs.DirectiveTrees.{diagnostic_tree}
 use Rattle.shade_parse.proofs.directives.diagnostic.Goals as goal

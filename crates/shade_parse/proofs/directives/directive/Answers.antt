@@ -6,9 +6,10 @@ use Rattle.shade_ast.specs.Declarations.{DirectiveOf}
 use Rattle.shade_parse.specs.Rests.{Enclosed, DiagnosticRest}
 use Rattle.shade_cursor.specs.Shown.{lexemes}
 use Rattle.shade_parse_expr.proofs.Turns.{errs, fault_on, fails_here}
-use Rattle.shade_parse.proofs.Faulty.{within}
+use Rattle.shade_parse_simple.proofs.Faulty.{within}
 use Rattle.shade_ast.specs.Shapes.{requires_directive, enable_directive}
-use Rattle.shade_parse.specs.Readings.{ReadsOf, directive_seen}
+use Rattle.shade_parse_simple.specs.Readings.{ReadsOf}
+use Rattle.shade_parse.specs.Parts.{directive_seen}
 use Rattle.shade_parse.proofs.DirectiveLaws.{directive_stuck, directive_fails, built_fails}
 use Rattle.shade_parse.proofs.DirectiveTrees.{directive_tree, requires_tree, enable_tree}
 use Rattle.shade_parse.proofs.directives.directive.Goals as goal

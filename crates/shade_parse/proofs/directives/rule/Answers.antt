@@ -3,8 +3,8 @@ use Rattle.shade_ast.specs.Statements.{Name}
 use Rattle.shade_ast.specs.Declarations.{RuleOf}
 use Rattle.shade_cursor.specs.Shown.{lexemes}
 use Rattle.shade_parse_expr.proofs.Turns.{errs, fault_on}
-use Rattle.shade_parse.proofs.Faulty.{within}
-use Rattle.shade_parse.proofs.Widens.{widen, named_keeps}
+use Rattle.shade_parse_simple.proofs.Faulty.{within}
+use Rattle.shade_parse_simple.proofs.Widens.{widen, named_keeps}
 use Rattle.shade_parse.proofs.DirectiveLaws.{rule_name_fails, rule_second_fails}
 use Rattle.shade_parse.proofs.DirectiveTrees.{plain_tree, scoped_tree}
 use Rattle.shade_parse.proofs.directives.rule.Goals as goal

@@ -7,9 +7,9 @@ use Rattle.shade_ast.specs.Statements.{Attribute}
 use Rattle.shade_ast.specs.Declarations.{ResultOf}
 use Rattle.shade_cursor.specs.Shown.{lexemes}
 use Rattle.shade_parse_expr.proofs.Turns.{errs}
-use Rattle.shade_parse.proofs.Faulty.{within, fault_in}
-use Rattle.shade_parse.proofs.Widens.{widen, attrs_keep, part_reads}
-use Rattle.shade_parse.proofs.Openings.{opened_fails}
+use Rattle.shade_parse_simple.proofs.Faulty.{within, fault_in}
+use Rattle.shade_parse_simple.proofs.Widens.{widen, attrs_keep, part_reads}
+use Rattle.shade_parse_simple.proofs.Openings.{opened_fails}
 use Rattle.shade_parse.proofs.MemberLaws.{result_opens, result_attrs_fail, result_type_fails}
 use Rattle.shade_parse.proofs.MemberTrees.{result_tree}
 use Rattle.shade_parse.proofs.members.maybe_result.Goals as goal

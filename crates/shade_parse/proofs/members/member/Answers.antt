@@ -5,8 +5,8 @@ use Rattle.shade_ast.specs.Declarations.{MemberOf}
 use Rattle.shade_ast.proofs.ShapeLaws.{grows_trans}
 use Rattle.shade_cursor.specs.Shown.{lexemes}
 use Rattle.shade_parse_expr.proofs.Turns.{errs, fault_on}
-use Rattle.shade_parse.proofs.Faulty.{within}
-use Rattle.shade_parse.proofs.Widens.{widen, named_keeps, attrs_keep}
+use Rattle.shade_parse_simple.proofs.Faulty.{within}
+use Rattle.shade_parse_simple.proofs.Widens.{widen, named_keeps, attrs_keep}
 use Rattle.shade_parse.proofs.MemberLaws.{member_attrs_fail, member_name_fails, member_type_fails}
 use Rattle.shade_parse.proofs.MemberTrees.{member_tree}
 use Rattle.shade_parse.proofs.members.member.Goals as goal
