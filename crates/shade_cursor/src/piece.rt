@@ -4,7 +4,7 @@ ghost use Rattle.std.specs.Prelude.{◌≡◌, ◌<◌, ◌↔◌, ℕ, List, le
 ghost use Rattle.shade_base.specs.declared.place.Place.{Place as PlaceOf};
 ghost use Rattle.shade_lex.specs.declared.token.Suffix.{Suffix as SuffixOf};
 ghost use Rattle.shade_ast.specs.Lexemes.{Word, Key, Number, Mark, Adjacent};
-ghost use Rattle.shade_cursor.specs.Operators.{found, mark_of};
+ghost use Rattle.shade_cursor.specs.Operators.{found, key_of, mark_of};
 ghost use Rattle.shade_cursor.specs.Shown.{lexemes};
 
 use shade_ast::{Keyword, Sign};
@@ -44,25 +44,31 @@ pub fn number_at(pieces: &[Piece], at: usize) -> Option<(u64, Suffix, Place)>
     }
 }
 
+/// The keyword at a place, if one stands there.
+pub fn keyword_at(pieces: &[Piece], at: usize) -> Option<(Keyword, Place)>
+    ensures value { result ≡ found key_of (slice_get (lexemes pieces.now) at) }
+    ensures within { OnSome result (at < length pieces.now) }
+{
+    match pieces.get(at) {
+        Some(Piece::Key(found, place)) => Some((*found, *place)),
+        _ => None,
+    }
+}
+
 /// The place of a keyword, if it stands there.
 pub fn key_at(pieces: &[Piece], at: usize, keyword: Keyword) -> Option<Place>
     ensures value { MatchOption result ((p : PlaceOf) → ¬ (slice_get (lexemes pieces.now) at ≡ Some (Key keyword p))) (λ p. slice_get (lexemes pieces.now) at ≡ Some (Key keyword p)) }
     ensures within { OnSome result (at < length pieces.now) }
 {
-    match pieces.get(at) {
-        Some(Piece::Key(found, place)) => {
-            if *found == keyword {
-                Some(*place)
-            } else {
-                None
-            }
-        }
-        _ => None,
+    let (found, place) = keyword_at(pieces, at)?;
+    if found == keyword {
+        return Some(place);
     }
+    None
 }
 
 /// The mark at a place, if one stands there.
-fn sign_at(pieces: &[Piece], at: usize) -> Option<(Sign, Place)>
+pub fn sign_at(pieces: &[Piece], at: usize) -> Option<(Sign, Place)>
     ensures value { result ≡ found mark_of (slice_get (lexemes pieces.now) at) }
     ensures within { OnSome result (at < length pieces.now) }
 {
