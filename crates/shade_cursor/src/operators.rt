@@ -4,7 +4,9 @@ ghost use Rattle.std.specs.Prelude.{◌≡◌, ◌<◌, ◌≤◌, ◌↔◌, If
 ghost use Rattle.shade_base.specs.declared.place.Place.{Place as PlaceOf};
 ghost use Rattle.shade_ast.specs.declared.expr.Infix.{Infix as InfixOf};
 ghost use Rattle.shade_cursor.specs.Shown.{lexemes};
-ghost use Rattle.shade_cursor.specs.Operators.{found, factor_by, factor_of, term_by, term_of, relation_by, relation_of, prefix_by, prefix_of, left_prefix_by, left_prefix_of, ShiftAt, ComparisonAt, joint_by, joint_of, joint_sign, joint_infix, Joins};
+ghost use Rattle.shade_cursor.specs.Operators.{found, factor_by, factor_of, term_by, term_of, relation_by, relation_of, prefix_by, prefix_of};
+ghost use Rattle.shade_cursor.specs.Operators.{left_prefix_by, left_prefix_of, ShiftAt, ComparisonAt, joint_by, joint_of, joint_sign, joint_infix};
+ghost use Rattle.shade_cursor.specs.Operators.{Joins};
 
 use crate::piece::{Piece, is_behind, mark_at, sign_at};
 use shade_ast::{Infix, Prefix, Sign};
@@ -158,7 +160,8 @@ fn relation_at(pieces: &[Piece], at: usize) -> Option<(Infix, Place)>
 
 /// The operator of a comparison and the place behind it, if one stands there.
 pub fn comparison_at(pieces: &[Piece], at: usize) -> Option<(Infix, Place, usize)>
-    ensures value { MatchOption result (found relation_of (slice_get (lexemes pieces.now) at) ≡ None) (λ o. ComparisonAt (lexemes pieces.now) at o.0 o.1 o.2) }
+    ensures value { MatchOption result (found relation_of (slice_get (lexemes pieces.now) at) ≡ None)
+        (λ o. ComparisonAt (lexemes pieces.now) at o.0 o.1 o.2) }
     ensures within { IfSome result (λ o. o.2 ≤ length pieces.now) }
     ensures further { IfSome result (λ o. at < o.2) }
 {
@@ -174,7 +177,8 @@ pub fn comparison_at(pieces: &[Piece], at: usize) -> Option<(Infix, Place, usize
 
 /// The operator of a shift of a single operand and the place behind it, if one stands there.
 pub fn shift_at(pieces: &[Piece], at: usize, bare: bool) -> Option<(Infix, Place, usize)>
-    ensures value { MatchOption result ((i : InfixOf) (p : PlaceOf) (next : ℕ) → ¬ (ShiftAt (lexemes pieces.now) at bare i p next)) (λ o. ShiftAt (lexemes pieces.now) at bare o.0 o.1 o.2) }
+    ensures value { MatchOption result ((i : InfixOf) (p : PlaceOf) (next : ℕ) → ¬ (ShiftAt (lexemes pieces.now) at bare i p next))
+        (λ o. ShiftAt (lexemes pieces.now) at bare o.0 o.1 o.2) }
     ensures within { IfSome result (λ o. o.2 ≤ length pieces.now) }
     ensures further { IfSome result (λ o. at < o.2) }
 {

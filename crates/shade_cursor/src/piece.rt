@@ -24,7 +24,8 @@ pub enum Piece<'a> {
 
 /// The name at a place, if one stands there.
 pub fn word_at<'a>(pieces: &[Piece<'a>], at: usize) -> Option<(&'a str, Place)>
-    ensures value { MatchOption result ((t : List ℕ) (p : PlaceOf) → ¬ (slice_get (lexemes pieces.now) at ≡ Some (Word t p))) (λ w. slice_get (lexemes pieces.now) at ≡ Some (Word w.0.now w.1)) }
+    ensures value { MatchOption result ((t : List ℕ) (p : PlaceOf) → ¬ (slice_get (lexemes pieces.now) at ≡ Some (Word t p)))
+        (λ w. slice_get (lexemes pieces.now) at ≡ Some (Word w.0.now w.1)) }
     ensures within { OnSome result (at < length pieces.now) }
 {
     match pieces.get(at) {
@@ -35,7 +36,8 @@ pub fn word_at<'a>(pieces: &[Piece<'a>], at: usize) -> Option<(&'a str, Place)>
 
 /// The number at a place, if one stands there.
 pub fn number_at(pieces: &[Piece], at: usize) -> Option<(u64, Suffix, Place)>
-    ensures value { MatchOption result ((v : ℕ) (s : SuffixOf) (p : PlaceOf) → ¬ (slice_get (lexemes pieces.now) at ≡ Some (Number v s p))) (λ n. slice_get (lexemes pieces.now) at ≡ Some (Number n.0 n.1 n.2)) }
+    ensures value { MatchOption result ((v : ℕ) (s : SuffixOf) (p : PlaceOf) → ¬ (slice_get (lexemes pieces.now) at ≡ Some (Number v s p)))
+        (λ n. slice_get (lexemes pieces.now) at ≡ Some (Number n.0 n.1 n.2)) }
     ensures within { OnSome result (at < length pieces.now) }
 {
     match pieces.get(at) {
@@ -57,7 +59,8 @@ pub fn keyword_at(pieces: &[Piece], at: usize) -> Option<(Keyword, Place)>
 
 /// The place of a keyword, if it stands there.
 pub fn key_at(pieces: &[Piece], at: usize, keyword: Keyword) -> Option<Place>
-    ensures value { MatchOption result ((p : PlaceOf) → ¬ (slice_get (lexemes pieces.now) at ≡ Some (Key keyword p))) (λ p. slice_get (lexemes pieces.now) at ≡ Some (Key keyword p)) }
+    ensures value { MatchOption result ((p : PlaceOf) → ¬ (slice_get (lexemes pieces.now) at ≡ Some (Key keyword p)))
+        (λ p. slice_get (lexemes pieces.now) at ≡ Some (Key keyword p)) }
     ensures within { OnSome result (at < length pieces.now) }
 {
     let (found, place) = keyword_at(pieces, at)?;
@@ -80,7 +83,8 @@ pub fn sign_at(pieces: &[Piece], at: usize) -> Option<(Sign, Place)>
 
 /// The place of a mark, if it stands there.
 pub fn mark_at(pieces: &[Piece], at: usize, sign: Sign) -> Option<Place>
-    ensures value { MatchOption result ((p : PlaceOf) → ¬ (slice_get (lexemes pieces.now) at ≡ Some (Mark sign p))) (λ p. slice_get (lexemes pieces.now) at ≡ Some (Mark sign p)) }
+    ensures value { MatchOption result ((p : PlaceOf) → ¬ (slice_get (lexemes pieces.now) at ≡ Some (Mark sign p)))
+        (λ p. slice_get (lexemes pieces.now) at ≡ Some (Mark sign p)) }
     ensures within { OnSome result (at < length pieces.now) }
 {
     let (found, place) = sign_at(pieces, at)?;

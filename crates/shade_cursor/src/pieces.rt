@@ -132,7 +132,8 @@ fn pieces_in<'a>(
     tokens: &[Token],
 ) -> Result<Vec<Piece<'a>>, AllocError>
     requires { All (IsWithin text.now) tokens.now }
-    ensures { IfOk result (λ v. (pairs : List (ℕ × ℕ)) → AreEnds ends.now.opens ends.now.closes pairs → lexemes v.items ≡ lexemes_of text.now pairs tokens.now) }
+    ensures { IfOk result
+        (λ v. (pairs : List (ℕ × ℕ)) → AreEnds ends.now.opens ends.now.closes pairs → lexemes v.items ≡ lexemes_of text.now pairs tokens.now) }
 {
     let mut pieces = Vec::with_capacity(alloc, tokens.len())?;
     for token in tokens {
