@@ -1,5 +1,5 @@
 -- How deep tokens stand in expressions: the numbers stay small, and a walk goes on.
-use Rattle.std.proofs.Common.{◌≡◌, sym, ap, ◌∙◌, refl, subst, ℕ, ◌+◌, ◌<◌, ◌≤◌, inl, inr, Bool, true, false, List, [], ◌∷◌, length, arith, slice_get, Some}
+use Rattle.std.proofs.Common.{◌≡◌, sym, ap, ◌∙◌, refl, subst, ℕ, ◌+◌, ◌<◌, ◌≤◌, inl, inr, Bool, true, false, List, [], ◌∷◌, length, arith}
 use Rattle.std.specs.List.{slice_index_or}
 use Rattle.shade_ast.specs.Lexemes.{Lexeme}
 use Rattle.shade_cursor.specs.declared.piece.Piece.{Piece}
@@ -9,8 +9,8 @@ use Rattle.shade_cursor.specs.declared.depths.Last.TheVariants as last
 use Rattle.shade_cursor.specs.declared.depths.Role.{Role}
 use Rattle.shade_cursor.specs.declared.depths.Role.TheVariants as role
 use Rattle.shade_cursor.specs.Shown.{lexeme, lexemes}
-use Rattle.shade_cursor.specs.Depths.{Opened, role_of, start, anew, after, joined, prefixed, accessed, resumed, opened, closed_to, opened_after, named_after, either_after, greater_after, equal_after, is_half, goes_on, before, behind, over, Exceeds, IsDeep}
-use Rattle.shade_cursor.specs.Walks.{SmallInside, AllSmall, Small}
+use Rattle.shade_cursor.specs.Depths.{Opened, role_of, start, anew, after, joined, prefixed, accessed, opened, closed_to, opened_after, named_after, either_after, greater_after, equal_after, is_half, goes_on, before, behind, over, Exceeds, IsDeep}
+use Rattle.shade_cursor.specs.Walks.{AllSmall, Small}
 use Rattle.shade_cursor.proofs.PassLaws.{Walked, walk_begins, walks_on, piece_stands, pieces_behind, none_passes}
 
 -- numbers stay small

@@ -45,9 +45,9 @@ factor_low (Mark sign.Percent s) i p e = omega arith
 factor_low _ i p e = absurd (let bad : None ≡ Some (i, p) = e in cc)
 
 pub factor_none : (t : Lexeme) → factor_of t ≡ None → (l q : ExprShape) (us zs : List Lexeme) → Factor t l q us zs → ⊥
-factor_none (Mark sign.Star s) e l q us zs k = let bad : Some (between.Multiply, s) ≡ None = e in cc
-factor_none (Mark sign.Slash s) e l q us zs k = let bad : Some (between.Divide, s) ≡ None = e in cc
-factor_none (Mark sign.Percent s) e l q us zs k = let bad : Some (between.Remainder, s) ≡ None = e in cc
+factor_none (Mark sign.Star s) e l q us zs k = let bad : Some (pair between.Multiply s) ≡ None = e in cc
+factor_none (Mark sign.Slash s) e l q us zs k = let bad : Some (pair between.Divide s) ≡ None = e in cc
+factor_none (Mark sign.Percent s) e l q us zs k = let bad : Some (pair between.Remainder s) ≡ None = e in cc
 factor_none _ e l q us zs k = k
 
 pub term_there : (t : Lexeme) (i : InfixOperator) (p : Place) → term_of t ≡ Some (i, p) → (l q : ExprShape) (us zs : List Lexeme) → Term t l q us zs → Infix Multiplicative (infixed (place_of l) l i p) q us zs
@@ -66,6 +66,6 @@ term_low (Mark sign.Minus s) i p e = omega arith
 term_low _ i p e = absurd (let bad : None ≡ Some (i, p) = e in cc)
 
 pub term_none : (t : Lexeme) → term_of t ≡ None → (l q : ExprShape) (us zs : List Lexeme) → Term t l q us zs → ⊥
-term_none (Mark sign.Plus s) e l q us zs k = let bad : Some (between.Add, s) ≡ None = e in cc
-term_none (Mark sign.Minus s) e l q us zs k = let bad : Some (between.Subtract, s) ≡ None = e in cc
+term_none (Mark sign.Plus s) e l q us zs k = let bad : Some (pair between.Add s) ≡ None = e in cc
+term_none (Mark sign.Minus s) e l q us zs k = let bad : Some (pair between.Subtract s) ≡ None = e in cc
 term_none _ e l q us zs k = k

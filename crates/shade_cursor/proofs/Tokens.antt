@@ -3,12 +3,13 @@ use Rattle.std.proofs.Common.{◌≡◌, ℕ, ◌≤◌, List, length, arith, �
 use Rattle.std.specs.Prelude.{is_some}
 use Rattle.std.proofs.lemmas.List.{length-map}
 use Rattle.shade_base.specs.declared.place.Place.{Place}
+use Rattle.shade_ast.specs.declared.lexeme.Keyword.{Keyword}
 use Rattle.shade_ast.specs.declared.lexeme.Sign.{Sign}
 use Rattle.shade_ast.specs.declared.expr.Infix.{Infix as InfixOperator}
-use Rattle.shade_ast.specs.Lexemes.{Lexeme, Mark}
+use Rattle.shade_ast.specs.Lexemes.{Lexeme, Key, Mark}
 use Rattle.shade_cursor.specs.declared.piece.Piece.{Piece}
 use Rattle.shade_cursor.specs.Shown.{lexeme, lexemes}
-use Rattle.shade_cursor.specs.Operators.{found, mark_of}
+use Rattle.shade_cursor.specs.Operators.{found, key_of, mark_of}
 
 pub some_one : {A : Type 0} (x y : A) → Some x ≡ Some y → x ≡ y
 some_one x y e = cc
@@ -43,6 +44,18 @@ sign_stands m u s p e same =
 
 pub sign_other : (m : Option Lexeme) (u s : Sign) (q p : Place) → Some (u, q) ≡ found mark_of m → (u ≡ s → ⊥) → m ≡ Some (Mark s p) → ⊥
 sign_other m u s q p e differs is = differs (let both : Some (u, q) ≡ Some (s, p) = e ∙ ap (λ x. found mark_of x) is in let x : Sign × Place = (u, q) in let y : Sign × Place = (s, p) in let same : x ≡ y = some_one x y both in ap (λ z. z.0) same)
+
+key_told : (t : Lexeme) (s : Keyword) (p : Place) → key_of t ≡ Some (s, p) → t ≡ Key s p
+key_told (Key u q) s p e = let x : Keyword × Place = (u, q) in let y : Keyword × Place = (s, p) in let both : x ≡ y = some_one x y e in ap (λ z. Key z.0 z.1) both
+key_told _ s p e = absurd (let bad : None ≡ Some (s, p) = e in cc)
+
+pub key_stands : (m : Option Lexeme) (u s : Keyword) (p : Place) → Some (u, p) ≡ found key_of m → u ≡ s → m ≡ Some (Key s p)
+key_stands m u s p e same =
+    let t : Told key_of m (u, p) = told key_of m (u, p) e in
+    t.stands ∙ ap Some (key_told t.token u p t.tells ∙ ap (λ x. Key x p) same)
+
+pub key_other : (m : Option Lexeme) (u s : Keyword) (q p : Place) → Some (u, q) ≡ found key_of m → (u ≡ s → ⊥) → m ≡ Some (Key s p) → ⊥
+key_other m u s q p e differs is = differs (let both : Some (u, q) ≡ Some (s, p) = e ∙ ap (λ x. found key_of x) is in let x : Keyword × Place = (u, q) in let y : Keyword × Place = (s, p) in let same : x ≡ y = some_one x y both in ap (λ z. z.0) same)
 
 pub isnt : {P : Type 0} → IsTrue false ↔ P → P → ⊥
 isnt e p = let bad : false ≡ true = e.1 p in cc

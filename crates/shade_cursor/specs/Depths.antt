@@ -1,6 +1,6 @@
 -- How deep tokens stand in expressions, and how many operators and accesses stand before them: two limits of our own. An
 -- expression, a type, a left side or a call that stands in no other begins anew.
-use Rattle.std.specs.Prelude.{◌≡◌, ℕ, ◌+◌, ◌==◌, ◌<◌, ◌≤◌, ◌⊎◌, Bool, true, false, List, [], ◌∷◌, if◌then◌else◌}
+use Rattle.std.specs.Prelude.{ℕ, ◌+◌, ◌==◌, ◌<◌, ◌⊎◌, Bool, true, false, List, [], ◌∷◌, if◌then◌else◌}
 use Rattle.shade_base.specs.declared.place.Place.{Place}
 use Rattle.shade_ast.specs.declared.lexeme.Keyword.{Keyword}
 use Rattle.shade_ast.specs.declared.lexeme.Keyword.TheVariants as word

@@ -4,3 +4,4 @@ pub mod Operators
 pub mod Passes
 pub mod Depths
 pub mod Walks
+pub mod Makes

@@ -8,6 +8,7 @@ use Rattle.shade_ast.specs.declared.expr.Infix.TheVariants as between
 use Rattle.shade_ast.specs.declared.expr.Prefix.{Prefix}
 use Rattle.shade_ast.specs.declared.expr.Prefix.TheVariants as before
 use Rattle.shade_lex.specs.declared.token.Suffix.{Suffix}
+use Rattle.shade_ast.specs.declared.lexeme.Keyword.{Keyword}
 use Rattle.shade_ast.specs.declared.lexeme.Keyword.TheVariants as word
 use Rattle.shade_ast.specs.Lexemes.{Lexeme, Word, Key, Number, Mark, Adjacent}
 use Rattle.shade_cursor.specs.declared.operators.Joint.{Joint}
@@ -22,38 +23,70 @@ abbrev pub mark_of : Lexeme → Option (Sign × Place)
 mark_of (Mark s p) = Some (s, p)
 mark_of _ = None
 
+abbrev pub key_of : Lexeme → Option (Keyword × Place)
+key_of (Key keyword p) = Some (keyword, p)
+key_of _ = None
+
+-- what a mark says, with its place
+abbrev pub placed : {A : Type 0} → Option A → Place → Option (A × Place)
+placed None place = None
+placed (Some said) place = Some (said, place)
+
+abbrev pub by_sign : {A : Type 0} → (Sign → Option A) → Lexeme → Option (A × Place)
+by_sign says (Mark s p) = placed (says s) p
+by_sign says _ = None
+
+-- the operator of a product
+abbrev pub factor_by : Sign → Option Infix
+factor_by sign.Star = Some between.Multiply
+factor_by sign.Slash = Some between.Divide
+factor_by sign.Percent = Some between.Remainder
+factor_by _ = None
+
 abbrev pub factor_of : Lexeme → Option (Infix × Place)
-factor_of (Mark sign.Star p) = Some (between.Multiply, p)
-factor_of (Mark sign.Slash p) = Some (between.Divide, p)
-factor_of (Mark sign.Percent p) = Some (between.Remainder, p)
-factor_of _ = None
+factor_of = by_sign factor_by
+
+-- the operator of a sum
+abbrev pub term_by : Sign → Option Infix
+term_by sign.Plus = Some between.Add
+term_by sign.Minus = Some between.Subtract
+term_by _ = None
 
 abbrev pub term_of : Lexeme → Option (Infix × Place)
-term_of (Mark sign.Plus p) = Some (between.Add, p)
-term_of (Mark sign.Minus p) = Some (between.Subtract, p)
-term_of _ = None
+term_of = by_sign term_by
+
+-- the operator before an operand
+abbrev pub prefix_by : Sign → Option Prefix
+prefix_by sign.Minus = Some before.Negate
+prefix_by sign.Bang = Some before.Not
+prefix_by sign.Tilde = Some before.Complement
+prefix_by sign.Star = Some before.Deref
+prefix_by sign.Ampersand = Some before.AddressOf
+prefix_by _ = None
 
 abbrev pub prefix_of : Lexeme → Option (Prefix × Place)
-prefix_of (Mark sign.Minus p) = Some (before.Negate, p)
-prefix_of (Mark sign.Bang p) = Some (before.Not, p)
-prefix_of (Mark sign.Tilde p) = Some (before.Complement, p)
-prefix_of (Mark sign.Star p) = Some (before.Deref, p)
-prefix_of (Mark sign.Ampersand p) = Some (before.AddressOf, p)
-prefix_of _ = None
+prefix_of = by_sign prefix_by
+
+-- the operator before a left side
+abbrev pub left_prefix_by : Sign → Option Prefix
+left_prefix_by sign.Star = Some before.Deref
+left_prefix_by sign.Ampersand = Some before.AddressOf
+left_prefix_by _ = None
 
 abbrev pub left_prefix_of : Lexeme → Option (Prefix × Place)
-left_prefix_of (Mark sign.Star p) = Some (before.Deref, p)
-left_prefix_of (Mark sign.Ampersand p) = Some (before.AddressOf, p)
-left_prefix_of _ = None
+left_prefix_of = by_sign left_prefix_by
 
 -- the first token of a comparison's operator
+abbrev pub relation_by : Sign → Option Infix
+relation_by sign.Less = Some between.Less
+relation_by sign.Greater = Some between.Greater
+relation_by sign.LessEqual = Some between.LessEqual
+relation_by sign.EqualEqual = Some between.Equal
+relation_by sign.NotEqual = Some between.NotEqual
+relation_by _ = None
+
 abbrev pub relation_of : Lexeme → Option (Infix × Place)
-relation_of (Mark sign.Less p) = Some (between.Less, p)
-relation_of (Mark sign.Greater p) = Some (between.Greater, p)
-relation_of (Mark sign.LessEqual p) = Some (between.LessEqual, p)
-relation_of (Mark sign.EqualEqual p) = Some (between.Equal, p)
-relation_of (Mark sign.NotEqual p) = Some (between.NotEqual, p)
-relation_of _ = None
+relation_of = by_sign relation_by
 
 -- a mark stands directly behind a mark of one byte
 abbrev pub Behind : List Lexeme → ℕ → Sign → Place → Type 0
@@ -69,13 +102,17 @@ pub data ShiftAt (tokens : List Lexeme) (at : ℕ) (bare : Bool) : Infix → Pla
   to_left : {p : Place} → bare ≡ true → slice_get tokens at ≡ Some (Mark sign.ShiftLeft p) → ShiftAt tokens at bare between.ShiftLeft p (at + 1)
   to_right : {p : Place} → bare ≡ true → slice_get tokens at ≡ Some (Mark sign.Greater p) → Behind tokens (at + 1) sign.Greater p → ShiftAt tokens at bare between.ShiftRight p (at + 2)
 
+-- the operator that joins what stands before it
+abbrev pub joint_by : Sign → Option Joint
+joint_by sign.OrOr = Some joint.Or
+joint_by sign.AndAnd = Some joint.And
+joint_by sign.Ampersand = Some joint.BitAnd
+joint_by sign.Bar = Some joint.BitOr
+joint_by sign.Caret = Some joint.BitXor
+joint_by _ = None
+
 abbrev pub joint_of : Lexeme → Option (Joint × Place)
-joint_of (Mark sign.OrOr p) = Some (joint.Or, p)
-joint_of (Mark sign.AndAnd p) = Some (joint.And, p)
-joint_of (Mark sign.Ampersand p) = Some (joint.BitAnd, p)
-joint_of (Mark sign.Bar p) = Some (joint.BitOr, p)
-joint_of (Mark sign.Caret p) = Some (joint.BitXor, p)
-joint_of _ = None
+joint_of = by_sign joint_by
 
 abbrev pub joint_sign : Joint → Sign
 joint_sign joint.Or = sign.OrOr

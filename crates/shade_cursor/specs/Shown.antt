@@ -1,5 +1,6 @@
 -- What the parser sees of tokens.
 use Rattle.std.specs.Prelude.{◌≡◌, ◌==◌, ℕ, List, map}
+use Rattle.std.specs.Borrow.{Bor}
 use Rattle.std.specs.List.{list_any}
 use Rattle.std.specs.Ordering.{nat_cmp}
 use Rattle.std.specs.BTreeSet.{BTreeSet, contains}
@@ -20,3 +21,7 @@ lexemes pieces = map lexeme pieces
 -- two sets hold the offsets at which template lists begin and end
 abbrev pub AreEnds : BTreeSet ℕ → BTreeSet ℕ → List (ℕ × ℕ) → Type 0
 AreEnds opens closes pairs = (q : ℕ) → (contains nat_cmp opens q ≡ list_any (λ pair. pair.0 == q) pairs) × (contains nat_cmp closes q ≡ list_any (λ pair. pair.1 == q) pairs)
+
+-- the texts of a table, and what stands beside them
+abbrev pub entries : {A : Type 0} → List (Bor (List ℕ) × A) → List (List ℕ × A)
+entries table = map (λ entry. (entry.0.now, entry.1)) table

@@ -1,8 +1,9 @@
 //! Trees from their parts.
 
-ghost use Rattle.std.specs.Prelude.{◌≡◌, ◌+◌, ◌<◌, ◌≤◌, ◌^◌, ◌++◌, ◌∷◌, [], true, false, length, slice_get, MatchResult, IfOk};
+ghost use Rattle.std.specs.Prelude.{◌≡◌, ◌+◌, ◌<◌, ◌≤◌, ◌^◌, ◌++◌, ◌∷◌, [], length, slice_get, MatchResult, IfOk};
 ghost use Rattle.std.specs.Result.{IsErrAnd};
 ghost use Rattle.shade_ast.specs.Names.{Grows};
+ghost use Rattle.shade_cursor.specs.Makes.{made, made_infix, named, Makes};
 
 use crate::part::{Fault, Listing, Part};
 use shade_ast::{Expr, ExprKind, Infix, Named, Names, Prefix};
@@ -37,7 +38,7 @@ fn boxed(alloc: Global, expr: Expr) -> Result<Boxed<Expr>, Fault>
 /// A tree of a kind, with the next number.
 fn part(kind: ExprKind, place: Place, end: usize, node: u32) -> Part
     requires node { node + 1 < 2 ^ 32 }
-    ensures { result ≡ record { expr = record { node = node; place = place; kind = kind }; end = end; node = node + 1; bare = true } }
+    ensures { result ≡ made kind place end node }
 {
     let expr = Expr { node, place, kind };
     Part {
@@ -57,7 +58,7 @@ pub fn infix(
     right: Part,
 ) -> Result<Part, Fault>
     requires { right.node + 1 < 2 ^ 32 }
-    ensures { MatchResult result (λ p. p ≡ record { expr = record { node = right.node; place = left.expr.place; kind = ExprKind.Infix left.expr operator at right.expr }; end = right.end; node = right.node + 1; bare = false }) (λ f. f ≡ Fault.NoMemory) }
+    ensures { Makes (made_infix (ExprKind.Infix left.expr operator at right.expr) left.expr.place right.end right.node) result }
 {
     let place = left.expr.place;
     let left = match boxed(alloc, left.expr) {
@@ -79,7 +80,7 @@ pub fn infix(
 /// An operator before an expression.
 pub fn prefix(alloc: Global, operator: Prefix, place: Place, operand: Part) -> Result<Part, Fault>
     requires { operand.node + 1 < 2 ^ 32 }
-    ensures { MatchResult result (λ p. p ≡ record { expr = record { node = operand.node; place = place; kind = ExprKind.Prefix operator operand.expr }; end = operand.end; node = operand.node + 1; bare = true }) (λ f. f ≡ Fault.NoMemory) }
+    ensures { Makes (made (ExprKind.Prefix operator operand.expr) place operand.end operand.node) result }
 {
     let kind = ExprKind::Prefix {
         operator,
@@ -92,7 +93,7 @@ pub fn prefix(alloc: Global, operator: Prefix, place: Place, operand: Part) -> R
 pub fn paren(alloc: Global, place: Place, inner: Part) -> Result<Part, Fault>
     requires node { inner.node + 1 < 2 ^ 32 }
     requires end { inner.end + 1 < 2 ^ 64 }
-    ensures { MatchResult result (λ p. p ≡ record { expr = record { node = inner.node; place = place; kind = ExprKind.Paren inner.expr }; end = inner.end + 1; node = inner.node + 1; bare = true }) (λ f. f ≡ Fault.NoMemory) }
+    ensures { Makes (made (ExprKind.Paren inner.expr) place (inner.end + 1) inner.node) result }
 {
     let kind = ExprKind::Paren(boxed(alloc, inner.expr)?);
     Ok(part(kind, place, inner.end + 1, inner.node))
@@ -108,7 +109,7 @@ pub fn member(
 ) -> Result<Part, Fault>
     requires node { whole.node + 2 < 2 ^ 32 }
     requires end { whole.end + 2 < 2 ^ 64 }
-    ensures { MatchResult result (λ p. p ≡ record { expr = record { node = whole.node + 1; place = whole.expr.place; kind = ExprKind.Member whole.expr dot (record { node = whole.node; place = place; name = name }) }; end = whole.end + 2; node = whole.node + 1 + 1; bare = true }) (λ f. f ≡ Fault.NoMemory) }
+    ensures { Makes (made (ExprKind.Member whole.expr dot (named whole.node place name)) whole.expr.place (whole.end + 2) (whole.node + 1)) result }
 {
     let first = whole.expr.place;
     let member = Named {
@@ -128,7 +129,7 @@ pub fn member(
 pub fn index(alloc: Global, whole: Part, bracket: Place, at: Part) -> Result<Part, Fault>
     requires node { at.node + 1 < 2 ^ 32 }
     requires end { at.end + 1 < 2 ^ 64 }
-    ensures { MatchResult result (λ p. p ≡ record { expr = record { node = at.node; place = whole.expr.place; kind = ExprKind.Index whole.expr bracket at.expr }; end = at.end + 1; node = at.node + 1; bare = true }) (λ f. f ≡ Fault.NoMemory) }
+    ensures { Makes (made (ExprKind.Index whole.expr bracket at.expr) whole.expr.place (at.end + 1) at.node) result }
 {
     let first = whole.expr.place;
     let whole = match boxed(alloc, whole.expr) {
@@ -146,7 +147,7 @@ pub fn index(alloc: Global, whole: Part, bracket: Place, at: Part) -> Result<Par
 /// A call.
 pub fn call(alloc: Global, callee: Part, list: Listing) -> Result<Part, Fault>
     requires { list.node + 1 < 2 ^ 32 }
-    ensures { MatchResult result (λ p. p ≡ record { expr = record { node = list.node; place = callee.expr.place; kind = ExprKind.Call callee.expr list.items list.trailing }; end = list.end; node = list.node + 1; bare = true }) (λ f. f ≡ Fault.NoMemory) }
+    ensures { Makes (made (ExprKind.Call callee.expr list.items list.trailing) callee.expr.place list.end list.node) result }
 {
     let place = callee.expr.place;
     let kind = ExprKind::Call {
@@ -160,7 +161,7 @@ pub fn call(alloc: Global, callee: Part, list: Listing) -> Result<Part, Fault>
 /// A name with its template list.
 pub fn template(place: Place, name: u32, list: Listing) -> Part
     requires { list.node + 1 < 2 ^ 32 }
-    ensures { result ≡ record { expr = record { node = list.node; place = place; kind = ExprKind.Template name list.items list.trailing }; end = list.end; node = list.node + 1; bare = true } }
+    ensures { result ≡ made (ExprKind.Template name list.items list.trailing) place list.end list.node }
 {
     let kind = ExprKind::Template {
         name,
@@ -174,7 +175,7 @@ pub fn template(place: Place, name: u32, list: Listing) -> Part
 pub fn leaf(kind: ExprKind, place: Place, from: usize, node: u32) -> Part
     requires node { node + 1 < 2 ^ 32 }
     requires end { from + 1 < 2 ^ 64 }
-    ensures { result ≡ record { expr = record { node = node; place = place; kind = kind }; end = from + 1; node = node + 1; bare = true } }
+    ensures { result ≡ made kind place (from + 1) node }
 {
     part(kind, place, from + 1, node)
 }

@@ -2,7 +2,9 @@
 
 ghost use Rattle.std.specs.Prelude.{◌≡◌, ℕ, ◌+◌, ◌<◌, ◌≤◌, [], length, IfOk, IfSome, MatchOption, OnOk};
 ghost use Rattle.shade_ast.specs.declared.lexeme.Keyword.{Keyword as KeywordOf};
-ghost use Rattle.shade_cursor.specs.Depths.{after, accessed, anew, before, behind, closed_to, either_after, equal_after, follows, goes_on, greater_after, is_half, joined, keyword_role, named_after, opened, opened_after, outermost, prefixed, resumed, role_of as role_of_lexeme, sign_role, start, IsDeep};
+ghost use Rattle.shade_cursor.specs.Depths.{after, accessed, anew, before, behind, closed_to, either_after, equal_after, follows, goes_on};
+ghost use Rattle.shade_cursor.specs.Depths.{greater_after, is_half, joined, keyword_role, named_after, opened, opened_after, outermost, prefixed};
+ghost use Rattle.shade_cursor.specs.Depths.{resumed, role_of as role_of_lexeme, sign_role, start, IsDeep};
 ghost use Rattle.shade_cursor.specs.Passes.{IsFirst};
 ghost use Rattle.shade_cursor.specs.Walks.{Small};
 ghost use Rattle.shade_cursor.specs.Shown.{lexeme, lexemes};
@@ -343,7 +345,8 @@ impl Walk {
 /// Takes time in the order of the tokens, and memory for the brackets that are open.
 pub fn first_deep(alloc: Global, pieces: &[Piece], from: usize) -> Result<Option<usize>, AllocError>
     requires { from ≤ length pieces.now }
-    ensures deep { IfOk result (λ r. MatchOption r ((k : ℕ) → IsDeep (lexemes pieces.now) from k → ⊥) (λ k. IsFirst (IsDeep (lexemes pieces.now) from) k)) }
+    ensures deep { IfOk result (λ r. MatchOption r ((k : ℕ) → IsDeep (lexemes pieces.now) from k → ⊥)
+        (λ k. IsFirst (IsDeep (lexemes pieces.now) from) k)) }
     ensures within { IfOk result (λ r. IfSome r (λ k. k < length pieces.now)) }
 {
     let mut walk = Walk::new(alloc);

@@ -4,9 +4,11 @@ ghost use Rattle.std.specs.Prelude.{◌≡◌, ◌<◌, ◌≤◌, ◌↔◌, If
 ghost use Rattle.shade_base.specs.declared.place.Place.{Place as PlaceOf};
 ghost use Rattle.shade_ast.specs.declared.expr.Infix.{Infix as InfixOf};
 ghost use Rattle.shade_cursor.specs.Shown.{lexemes};
-ghost use Rattle.shade_cursor.specs.Operators.{found, factor_of, term_of, relation_of, prefix_of, left_prefix_of, ShiftAt, ComparisonAt, joint_of, joint_sign, joint_infix, Joins};
+ghost use Rattle.shade_cursor.specs.Operators.{found, factor_by, factor_of, term_by, term_of, relation_by, relation_of, prefix_by, prefix_of};
+ghost use Rattle.shade_cursor.specs.Operators.{left_prefix_by, left_prefix_of, ShiftAt, ComparisonAt, joint_by, joint_of, joint_sign, joint_infix};
+ghost use Rattle.shade_cursor.specs.Operators.{Joins};
 
-use crate::piece::{Piece, is_behind, mark_at};
+use crate::piece::{Piece, is_behind, mark_at, sign_at};
 use shade_ast::{Infix, Prefix, Sign};
 use shade_base::Place;
 
@@ -44,15 +46,35 @@ pub fn infix_of(joint: Joint) -> Infix
     }
 }
 
+/// The operator of a product that a mark is, if it is one.
+fn factor_by(sign: Sign) -> Option<Infix>
+    ensures { result ≡ factor_by sign }
+{
+    match sign {
+        Sign::Star => Some(Infix::Multiply),
+        Sign::Slash => Some(Infix::Divide),
+        Sign::Percent => Some(Infix::Remainder),
+        _ => None,
+    }
+}
+
 /// The operator of a product, if one stands there.
 pub fn factor_at(pieces: &[Piece], at: usize) -> Option<(Infix, Place)>
     ensures value { result ≡ found factor_of (slice_get (lexemes pieces.now) at) }
     ensures within { OnSome result (at < length pieces.now) }
 {
-    match pieces.get(at) {
-        Some(Piece::Mark(Sign::Star, place)) => Some((Infix::Multiply, *place)),
-        Some(Piece::Mark(Sign::Slash, place)) => Some((Infix::Divide, *place)),
-        Some(Piece::Mark(Sign::Percent, place)) => Some((Infix::Remainder, *place)),
+    let (sign, place) = sign_at(pieces, at)?;
+    let factor = factor_by(sign)?;
+    Some((factor, place))
+}
+
+/// The operator of a sum that a mark is, if it is one.
+fn term_by(sign: Sign) -> Option<Infix>
+    ensures { result ≡ term_by sign }
+{
+    match sign {
+        Sign::Plus => Some(Infix::Add),
+        Sign::Minus => Some(Infix::Subtract),
         _ => None,
     }
 }
@@ -62,9 +84,21 @@ pub fn term_at(pieces: &[Piece], at: usize) -> Option<(Infix, Place)>
     ensures value { result ≡ found term_of (slice_get (lexemes pieces.now) at) }
     ensures within { OnSome result (at < length pieces.now) }
 {
-    match pieces.get(at) {
-        Some(Piece::Mark(Sign::Plus, place)) => Some((Infix::Add, *place)),
-        Some(Piece::Mark(Sign::Minus, place)) => Some((Infix::Subtract, *place)),
+    let (sign, place) = sign_at(pieces, at)?;
+    let term = term_by(sign)?;
+    Some((term, place))
+}
+
+/// The operator before an operand that a mark is, if it is one.
+fn prefix_by(sign: Sign) -> Option<Prefix>
+    ensures { result ≡ prefix_by sign }
+{
+    match sign {
+        Sign::Minus => Some(Prefix::Negate),
+        Sign::Bang => Some(Prefix::Not),
+        Sign::Tilde => Some(Prefix::Complement),
+        Sign::Star => Some(Prefix::Deref),
+        Sign::Ampersand => Some(Prefix::AddressOf),
         _ => None,
     }
 }
@@ -74,12 +108,18 @@ pub fn prefix_at(pieces: &[Piece], at: usize) -> Option<(Prefix, Place)>
     ensures value { result ≡ found prefix_of (slice_get (lexemes pieces.now) at) }
     ensures within { OnSome result (at < length pieces.now) }
 {
-    match pieces.get(at) {
-        Some(Piece::Mark(Sign::Minus, place)) => Some((Prefix::Negate, *place)),
-        Some(Piece::Mark(Sign::Bang, place)) => Some((Prefix::Not, *place)),
-        Some(Piece::Mark(Sign::Tilde, place)) => Some((Prefix::Complement, *place)),
-        Some(Piece::Mark(Sign::Star, place)) => Some((Prefix::Deref, *place)),
-        Some(Piece::Mark(Sign::Ampersand, place)) => Some((Prefix::AddressOf, *place)),
+    let (sign, place) = sign_at(pieces, at)?;
+    let prefix = prefix_by(sign)?;
+    Some((prefix, place))
+}
+
+/// The operator before a left side that a mark is, if it is one.
+fn left_prefix_by(sign: Sign) -> Option<Prefix>
+    ensures { result ≡ left_prefix_by sign }
+{
+    match sign {
+        Sign::Star => Some(Prefix::Deref),
+        Sign::Ampersand => Some(Prefix::AddressOf),
         _ => None,
     }
 }
@@ -89,9 +129,21 @@ pub fn left_prefix_at(pieces: &[Piece], at: usize) -> Option<(Prefix, Place)>
     ensures value { result ≡ found left_prefix_of (slice_get (lexemes pieces.now) at) }
     ensures within { OnSome result (at < length pieces.now) }
 {
-    match pieces.get(at) {
-        Some(Piece::Mark(Sign::Star, place)) => Some((Prefix::Deref, *place)),
-        Some(Piece::Mark(Sign::Ampersand, place)) => Some((Prefix::AddressOf, *place)),
+    let (sign, place) = sign_at(pieces, at)?;
+    let left_prefix = left_prefix_by(sign)?;
+    Some((left_prefix, place))
+}
+
+/// The operator of a comparison that a mark begins, if it begins one.
+fn relation_by(sign: Sign) -> Option<Infix>
+    ensures { result ≡ relation_by sign }
+{
+    match sign {
+        Sign::Less => Some(Infix::Less),
+        Sign::Greater => Some(Infix::Greater),
+        Sign::LessEqual => Some(Infix::LessEqual),
+        Sign::EqualEqual => Some(Infix::Equal),
+        Sign::NotEqual => Some(Infix::NotEqual),
         _ => None,
     }
 }
@@ -101,19 +153,15 @@ fn relation_at(pieces: &[Piece], at: usize) -> Option<(Infix, Place)>
     ensures value { result ≡ found relation_of (slice_get (lexemes pieces.now) at) }
     ensures within { OnSome result (at < length pieces.now) }
 {
-    match pieces.get(at) {
-        Some(Piece::Mark(Sign::Less, place)) => Some((Infix::Less, *place)),
-        Some(Piece::Mark(Sign::Greater, place)) => Some((Infix::Greater, *place)),
-        Some(Piece::Mark(Sign::LessEqual, place)) => Some((Infix::LessEqual, *place)),
-        Some(Piece::Mark(Sign::EqualEqual, place)) => Some((Infix::Equal, *place)),
-        Some(Piece::Mark(Sign::NotEqual, place)) => Some((Infix::NotEqual, *place)),
-        _ => None,
-    }
+    let (sign, place) = sign_at(pieces, at)?;
+    let relation = relation_by(sign)?;
+    Some((relation, place))
 }
 
 /// The operator of a comparison and the place behind it, if one stands there.
 pub fn comparison_at(pieces: &[Piece], at: usize) -> Option<(Infix, Place, usize)>
-    ensures value { MatchOption result (found relation_of (slice_get (lexemes pieces.now) at) ≡ None) (λ o. ComparisonAt (lexemes pieces.now) at o.0 o.1 o.2) }
+    ensures value { MatchOption result (found relation_of (slice_get (lexemes pieces.now) at) ≡ None)
+        (λ o. ComparisonAt (lexemes pieces.now) at o.0 o.1 o.2) }
     ensures within { IfSome result (λ o. o.2 ≤ length pieces.now) }
     ensures further { IfSome result (λ o. at < o.2) }
 {
@@ -129,7 +177,8 @@ pub fn comparison_at(pieces: &[Piece], at: usize) -> Option<(Infix, Place, usize
 
 /// The operator of a shift of a single operand and the place behind it, if one stands there.
 pub fn shift_at(pieces: &[Piece], at: usize, bare: bool) -> Option<(Infix, Place, usize)>
-    ensures value { MatchOption result ((i : InfixOf) (p : PlaceOf) (next : ℕ) → ¬ (ShiftAt (lexemes pieces.now) at bare i p next)) (λ o. ShiftAt (lexemes pieces.now) at bare o.0 o.1 o.2) }
+    ensures value { MatchOption result ((i : InfixOf) (p : PlaceOf) (next : ℕ) → ¬ (ShiftAt (lexemes pieces.now) at bare i p next))
+        (λ o. ShiftAt (lexemes pieces.now) at bare o.0 o.1 o.2) }
     ensures within { IfSome result (λ o. o.2 ≤ length pieces.now) }
     ensures further { IfSome result (λ o. at < o.2) }
 {
@@ -146,19 +195,28 @@ pub fn shift_at(pieces: &[Piece], at: usize, bare: bool) -> Option<(Infix, Place
     Some((Infix::ShiftRight, place, at + 2))
 }
 
+/// The operator that joins what stands before it that a mark is, if it is one.
+fn joint_by(sign: Sign) -> Option<Joint>
+    ensures { result ≡ joint_by sign }
+{
+    match sign {
+        Sign::OrOr => Some(Joint::Or),
+        Sign::AndAnd => Some(Joint::And),
+        Sign::Ampersand => Some(Joint::BitAnd),
+        Sign::Bar => Some(Joint::BitOr),
+        Sign::Caret => Some(Joint::BitXor),
+        _ => None,
+    }
+}
+
 /// The operator that joins what stands before it, if one stands there.
 pub fn joint_at(pieces: &[Piece], at: usize) -> Option<(Joint, Place)>
     ensures value { result ≡ found joint_of (slice_get (lexemes pieces.now) at) }
     ensures within { OnSome result (at < length pieces.now) }
 {
-    match pieces.get(at) {
-        Some(Piece::Mark(Sign::OrOr, place)) => Some((Joint::Or, *place)),
-        Some(Piece::Mark(Sign::AndAnd, place)) => Some((Joint::And, *place)),
-        Some(Piece::Mark(Sign::Ampersand, place)) => Some((Joint::BitAnd, *place)),
-        Some(Piece::Mark(Sign::Bar, place)) => Some((Joint::BitOr, *place)),
-        Some(Piece::Mark(Sign::Caret, place)) => Some((Joint::BitXor, *place)),
-        _ => None,
-    }
+    let (sign, place) = sign_at(pieces, at)?;
+    let joint = joint_by(sign)?;
+    Some((joint, place))
 }
 
 /// Whether an operator joins what stands before it; operators on bits join only single operands.

@@ -4,7 +4,7 @@ ghost use Rattle.std.specs.Prelude.{◌≡◌, ◌<◌, ◌↔◌, ℕ, List, le
 ghost use Rattle.shade_base.specs.declared.place.Place.{Place as PlaceOf};
 ghost use Rattle.shade_lex.specs.declared.token.Suffix.{Suffix as SuffixOf};
 ghost use Rattle.shade_ast.specs.Lexemes.{Word, Key, Number, Mark, Adjacent};
-ghost use Rattle.shade_cursor.specs.Operators.{found, mark_of};
+ghost use Rattle.shade_cursor.specs.Operators.{found, key_of, mark_of};
 ghost use Rattle.shade_cursor.specs.Shown.{lexemes};
 
 use shade_ast::{Keyword, Sign};
@@ -24,7 +24,8 @@ pub enum Piece<'a> {
 
 /// The name at a place, if one stands there.
 pub fn word_at<'a>(pieces: &[Piece<'a>], at: usize) -> Option<(&'a str, Place)>
-    ensures value { MatchOption result ((t : List ℕ) (p : PlaceOf) → ¬ (slice_get (lexemes pieces.now) at ≡ Some (Word t p))) (λ w. slice_get (lexemes pieces.now) at ≡ Some (Word w.0.now w.1)) }
+    ensures value { MatchOption result ((t : List ℕ) (p : PlaceOf) → ¬ (slice_get (lexemes pieces.now) at ≡ Some (Word t p)))
+        (λ w. slice_get (lexemes pieces.now) at ≡ Some (Word w.0.now w.1)) }
     ensures within { OnSome result (at < length pieces.now) }
 {
     match pieces.get(at) {
@@ -35,7 +36,8 @@ pub fn word_at<'a>(pieces: &[Piece<'a>], at: usize) -> Option<(&'a str, Place)>
 
 /// The number at a place, if one stands there.
 pub fn number_at(pieces: &[Piece], at: usize) -> Option<(u64, Suffix, Place)>
-    ensures value { MatchOption result ((v : ℕ) (s : SuffixOf) (p : PlaceOf) → ¬ (slice_get (lexemes pieces.now) at ≡ Some (Number v s p))) (λ n. slice_get (lexemes pieces.now) at ≡ Some (Number n.0 n.1 n.2)) }
+    ensures value { MatchOption result ((v : ℕ) (s : SuffixOf) (p : PlaceOf) → ¬ (slice_get (lexemes pieces.now) at ≡ Some (Number v s p)))
+        (λ n. slice_get (lexemes pieces.now) at ≡ Some (Number n.0 n.1 n.2)) }
     ensures within { OnSome result (at < length pieces.now) }
 {
     match pieces.get(at) {
@@ -44,25 +46,32 @@ pub fn number_at(pieces: &[Piece], at: usize) -> Option<(u64, Suffix, Place)>
     }
 }
 
-/// The place of a keyword, if it stands there.
-pub fn key_at(pieces: &[Piece], at: usize, keyword: Keyword) -> Option<Place>
-    ensures value { MatchOption result ((p : PlaceOf) → ¬ (slice_get (lexemes pieces.now) at ≡ Some (Key keyword p))) (λ p. slice_get (lexemes pieces.now) at ≡ Some (Key keyword p)) }
+/// The keyword at a place, if one stands there.
+pub fn keyword_at(pieces: &[Piece], at: usize) -> Option<(Keyword, Place)>
+    ensures value { result ≡ found key_of (slice_get (lexemes pieces.now) at) }
     ensures within { OnSome result (at < length pieces.now) }
 {
     match pieces.get(at) {
-        Some(Piece::Key(found, place)) => {
-            if *found == keyword {
-                Some(*place)
-            } else {
-                None
-            }
-        }
+        Some(Piece::Key(found, place)) => Some((*found, *place)),
         _ => None,
     }
 }
 
+/// The place of a keyword, if it stands there.
+pub fn key_at(pieces: &[Piece], at: usize, keyword: Keyword) -> Option<Place>
+    ensures value { MatchOption result ((p : PlaceOf) → ¬ (slice_get (lexemes pieces.now) at ≡ Some (Key keyword p)))
+        (λ p. slice_get (lexemes pieces.now) at ≡ Some (Key keyword p)) }
+    ensures within { OnSome result (at < length pieces.now) }
+{
+    let (found, place) = keyword_at(pieces, at)?;
+    if found == keyword {
+        return Some(place);
+    }
+    None
+}
+
 /// The mark at a place, if one stands there.
-fn sign_at(pieces: &[Piece], at: usize) -> Option<(Sign, Place)>
+pub fn sign_at(pieces: &[Piece], at: usize) -> Option<(Sign, Place)>
     ensures value { result ≡ found mark_of (slice_get (lexemes pieces.now) at) }
     ensures within { OnSome result (at < length pieces.now) }
 {
@@ -74,7 +83,8 @@ fn sign_at(pieces: &[Piece], at: usize) -> Option<(Sign, Place)>
 
 /// The place of a mark, if it stands there.
 pub fn mark_at(pieces: &[Piece], at: usize, sign: Sign) -> Option<Place>
-    ensures value { MatchOption result ((p : PlaceOf) → ¬ (slice_get (lexemes pieces.now) at ≡ Some (Mark sign p))) (λ p. slice_get (lexemes pieces.now) at ≡ Some (Mark sign p)) }
+    ensures value { MatchOption result ((p : PlaceOf) → ¬ (slice_get (lexemes pieces.now) at ≡ Some (Mark sign p)))
+        (λ p. slice_get (lexemes pieces.now) at ≡ Some (Mark sign p)) }
     ensures within { OnSome result (at < length pieces.now) }
 {
     let (found, place) = sign_at(pieces, at)?;

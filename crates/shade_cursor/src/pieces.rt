@@ -1,18 +1,95 @@
 //! The pieces that the tokens of a text are.
 
-ghost use Rattle.std.specs.Prelude.{◌≡◌, ◌≤◌, drop, length, ◌==◌, ℕ, List, IfOk, OnOk, ◌++◌, ◌∷◌, [], All};
+ghost use Rattle.std.specs.Prelude.{◌≡◌, ◌≤◌, length, ◌==◌, ℕ, List, IfOk, OnOk, ◌++◌, ◌∷◌, [], All};
 ghost use Rattle.std.specs.List.{list_any};
 ghost use Rattle.std.specs.Ordering.{nat_cmp};
 ghost use Rattle.std.specs.BTreeSet.{contains};
 ghost use Rattle.shade_lex.specs.Tokens.{IsWithin};
 ghost use Rattle.shade_ast.specs.Lexemes.{in_template, keywords, lexeme_of, lexemes as lexemes_of, named_in, signs};
-ghost use Rattle.shade_cursor.specs.Shown.{AreEnds, lexeme, lexemes};
+ghost use Rattle.shade_cursor.specs.Shown.{AreEnds, entries, lexeme, lexemes};
 
 use crate::piece::Piece;
 use shade_ast::{Keyword, Sign};
 use shade_lex::{TemplatePairs, Token, TokenKind, Tokens};
 use std::alloc::{AllocError, Global};
 use std::collections::BTreeSet;
+
+/// The keywords, each with its text.
+const KEYWORDS: [(&str, Keyword); 26] = [
+    ("alias", Keyword::Alias),
+    ("break", Keyword::Break),
+    ("case", Keyword::Case),
+    ("const", Keyword::Const),
+    ("const_assert", Keyword::ConstAssert),
+    ("continue", Keyword::Continue),
+    ("continuing", Keyword::Continuing),
+    ("default", Keyword::Default),
+    ("diagnostic", Keyword::Diagnostic),
+    ("discard", Keyword::Discard),
+    ("else", Keyword::Else),
+    ("enable", Keyword::Enable),
+    ("false", Keyword::False),
+    ("fn", Keyword::Fn),
+    ("for", Keyword::For),
+    ("if", Keyword::If),
+    ("let", Keyword::Let),
+    ("loop", Keyword::Loop),
+    ("override", Keyword::Override),
+    ("requires", Keyword::Requires),
+    ("return", Keyword::Return),
+    ("struct", Keyword::Struct),
+    ("switch", Keyword::Switch),
+    ("true", Keyword::True),
+    ("var", Keyword::Var),
+    ("while", Keyword::While),
+];
+
+/// The marks outside template lists, each with its text.
+const SIGNS: [(&str, Sign); 43] = [
+    ("(", Sign::Open),
+    (")", Sign::Close),
+    ("[", Sign::OpenBracket),
+    ("]", Sign::CloseBracket),
+    ("{", Sign::OpenBrace),
+    ("}", Sign::CloseBrace),
+    ("<", Sign::Less),
+    (">", Sign::Greater),
+    ("<=", Sign::LessEqual),
+    ("==", Sign::EqualEqual),
+    ("!=", Sign::NotEqual),
+    ("<<", Sign::ShiftLeft),
+    ("+", Sign::Plus),
+    ("-", Sign::Minus),
+    ("*", Sign::Star),
+    ("/", Sign::Slash),
+    ("%", Sign::Percent),
+    ("&", Sign::Ampersand),
+    ("|", Sign::Bar),
+    ("^", Sign::Caret),
+    ("&&", Sign::AndAnd),
+    ("||", Sign::OrOr),
+    ("!", Sign::Bang),
+    ("~", Sign::Tilde),
+    ("++", Sign::PlusPlus),
+    ("--", Sign::MinusMinus),
+    ("=", Sign::Equal),
+    ("+=", Sign::PlusEqual),
+    ("-=", Sign::MinusEqual),
+    ("*=", Sign::StarEqual),
+    ("/=", Sign::SlashEqual),
+    ("%=", Sign::PercentEqual),
+    ("&=", Sign::AmpersandEqual),
+    ("|=", Sign::BarEqual),
+    ("^=", Sign::CaretEqual),
+    ("<<=", Sign::ShiftLeftEqual),
+    ("->", Sign::Arrow),
+    (".", Sign::Dot),
+    (",", Sign::Comma),
+    (";", Sign::Semicolon),
+    (":", Sign::Colon),
+    ("@", Sign::At),
+    ("_", Sign::Underscore),
+];
 
 /// The offsets at which template lists begin and end.
 #[derive(Drop)]
@@ -55,7 +132,8 @@ fn pieces_in<'a>(
     tokens: &[Token],
 ) -> Result<Vec<Piece<'a>>, AllocError>
     requires { All (IsWithin text.now) tokens.now }
-    ensures { IfOk result (λ v. (pairs : List (ℕ × ℕ)) → AreEnds ends.now.opens ends.now.closes pairs → lexemes v.items ≡ lexemes_of text.now pairs tokens.now) }
+    ensures { IfOk result
+        (λ v. (pairs : List (ℕ × ℕ)) → AreEnds ends.now.opens ends.now.closes pairs → lexemes v.items ≡ lexemes_of text.now pairs tokens.now) }
 {
     let mut pieces = Vec::with_capacity(alloc, tokens.len())?;
     for token in tokens {
@@ -111,94 +189,24 @@ fn sign_at(ends: &Ends, sign: Sign, offset: u32) -> Sign
 fn keyword_of(word: &str) -> Option<Keyword>
     ensures { result ≡ named_in keywords word.now }
 {
-    match word {
-        "alias" => Some(Keyword::Alias),
-        "break" => Some(Keyword::Break),
-        "case" => Some(Keyword::Case),
-        "const" => Some(Keyword::Const),
-        "const_assert" => Some(Keyword::ConstAssert),
-        "continue" => Some(Keyword::Continue),
-        "continuing" => Some(Keyword::Continuing),
-        "default" => Some(Keyword::Default),
-        "diagnostic" => Some(Keyword::Diagnostic),
-        "discard" => Some(Keyword::Discard),
-        "else" => Some(Keyword::Else),
-        "enable" => Some(Keyword::Enable),
-        "false" => Some(Keyword::False),
-        "fn" => Some(Keyword::Fn),
-        "for" => Some(Keyword::For),
-        "if" => Some(Keyword::If),
-        "let" => Some(Keyword::Let),
-        "loop" => Some(Keyword::Loop),
-        "override" => Some(Keyword::Override),
-        "requires" => Some(Keyword::Requires),
-        "return" => Some(Keyword::Return),
-        "struct" => Some(Keyword::Struct),
-        "switch" => Some(Keyword::Switch),
-        "true" => Some(Keyword::True),
-        "var" => Some(Keyword::Var),
-        "while" => Some(Keyword::While),
-        _ => None,
-    }
+    named_in(&KEYWORDS, word)
 }
 
 /// The mark that a text is outside template lists, if it is one.
 fn sign_of(text: &str) -> Option<Sign>
     ensures { result ≡ named_in signs text.now }
 {
-    match text {
-        "(" => Some(Sign::Open),
-        ")" => Some(Sign::Close),
-        "[" => Some(Sign::OpenBracket),
-        "]" => Some(Sign::CloseBracket),
-        "{" => Some(Sign::OpenBrace),
-        "}" => Some(Sign::CloseBrace),
-        "<" => Some(Sign::Less),
-        ">" => Some(Sign::Greater),
-        "<=" => Some(Sign::LessEqual),
-        "==" => Some(Sign::EqualEqual),
-        "!=" => Some(Sign::NotEqual),
-        "<<" => Some(Sign::ShiftLeft),
-        "+" => Some(Sign::Plus),
-        "-" => Some(Sign::Minus),
-        "*" => Some(Sign::Star),
-        "/" => Some(Sign::Slash),
-        "%" => Some(Sign::Percent),
-        "&" => Some(Sign::Ampersand),
-        "|" => Some(Sign::Bar),
-        "^" => Some(Sign::Caret),
-        "&&" => Some(Sign::AndAnd),
-        "||" => Some(Sign::OrOr),
-        "!" => Some(Sign::Bang),
-        "~" => Some(Sign::Tilde),
-        "++" => Some(Sign::PlusPlus),
-        "--" => Some(Sign::MinusMinus),
-        _ => other_sign_of(text),
-    }
+    named_in(&SIGNS, text)
 }
 
-/// The mark that a text is, among those that are no brackets and no operators.
-fn other_sign_of(text: &str) -> Option<Sign>
-    ensures { result ≡ named_in (drop 26 signs) text.now }
+/// What stands beside a text in a table.
+fn named_in<T: Copy>(table: &[(&str, T)], text: &str) -> Option<T>
+    ensures { result ≡ named_in (entries table.now) text.now }
 {
-    match text {
-        "=" => Some(Sign::Equal),
-        "+=" => Some(Sign::PlusEqual),
-        "-=" => Some(Sign::MinusEqual),
-        "*=" => Some(Sign::StarEqual),
-        "/=" => Some(Sign::SlashEqual),
-        "%=" => Some(Sign::PercentEqual),
-        "&=" => Some(Sign::AmpersandEqual),
-        "|=" => Some(Sign::BarEqual),
-        "^=" => Some(Sign::CaretEqual),
-        "<<=" => Some(Sign::ShiftLeftEqual),
-        "->" => Some(Sign::Arrow),
-        "." => Some(Sign::Dot),
-        "," => Some(Sign::Comma),
-        ";" => Some(Sign::Semicolon),
-        ":" => Some(Sign::Colon),
-        "@" => Some(Sign::At),
-        "_" => Some(Sign::Underscore),
-        _ => None,
+    'entries: for (name, named) in table {
+        if text == *name {
+            return Some(*named);
+        }
     }
+    None
 }

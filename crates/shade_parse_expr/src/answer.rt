@@ -33,7 +33,8 @@ pub fn expression(
     requires within { from ≤ length tokens.now.tokens }
     requires node { node + 16 * length tokens.now.tokens < 2 ^ 32 }
     requires names { length names.old + length tokens.now.tokens < 2 ^ 32 - 1 }
-    ensures answer { MatchResult result (λ p. IsPhrase goal (lexemes tokens.now.text pairs.now tokens.now.tokens) names.old names.new from node p.0 p.1 p.2) (IsFault goal tokens.now.text tokens.now.tokens (lexemes tokens.now.text pairs.now tokens.now.tokens) names.old names.new from) }
+    ensures answer { MatchResult result (λ p. IsPhrase goal (lexemes tokens.now.text pairs.now tokens.now.tokens) names.old names.new from node p.0 p.1 p.2)
+        (IsFault goal tokens.now.text tokens.now.tokens (lexemes tokens.now.text pairs.now tokens.now.tokens) names.old names.new from) }
     ensures grows { Grows names.old names.new }
 {
     let Ok(pieces) = pieces_of(alloc, tokens, pairs) else {

@@ -35,7 +35,8 @@ pub fn phrase(
     requires within { from ≤ length pieces.now }
     requires node { node + length pieces.now < 2 ^ 32 + from }
     requires names { length names.old + length pieces.now < 2 ^ 32 + from }
-    ensures answer { MatchResult result (λ p. IsPhrase goal (lexemes pieces.now) names.old names.new from node p.expr p.end p.node) (IsRefused goal (lexemes pieces.now) names.old names.new from) }
+    ensures answer { MatchResult result (λ p. IsPhrase goal (lexemes pieces.now) names.old names.new from node p.expr p.end p.node)
+        (IsRefused goal (lexemes pieces.now) names.old names.new from) }
     ensures grows { Grows names.old names.new }
 {
     let Ok(deep) = first_deep(alloc, pieces, from) else {
@@ -62,7 +63,8 @@ fn read(
     requires within { from ≤ length pieces.now }
     requires node { node + length pieces.now < 2 ^ 32 + from }
     requires names { length names.old + length pieces.now < 2 ^ 32 + from }
-    ensures answer { MatchResult result (IsRead goal (lexemes pieces.now) names.old names.new from node) (IsUnread goal (lexemes pieces.now) names.old names.new from) }
+    ensures answer { MatchResult result (IsRead goal (lexemes pieces.now) names.old names.new from node)
+        (IsUnread goal (lexemes pieces.now) names.old names.new from) }
     ensures grows { Grows names.old names.new }
 {
     match goal {

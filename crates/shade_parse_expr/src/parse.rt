@@ -1,6 +1,6 @@
 //! Expressions, types, left sides and calls, without limits of depth.
 
-ghost use Rattle.std.specs.Prelude.{◌≡◌, ◌+◌, ◌<◌, ◌≤◌, ◌^◌, length, slice_get, IsTrue, IfOk, MatchResult, []};
+ghost use Rattle.std.specs.Prelude.{◌≡◌, ◌+◌, ◌<◌, ◌≤◌, ◌^◌, length, slice_get, IsTrue, IfOk, []};
 ghost use Rattle.shade_ast.specs.declared.lexeme.Sign.TheVariants as sign_;
 ghost use Rattle.shade_ast.specs.Lexemes.{Mark};
 ghost use Rattle.shade_ast.specs.Names.{Grows};
@@ -8,11 +8,12 @@ ghost use Rattle.shade_ast.specs.Needs.{expr_needs};
 ghost use Rattle.shade_ast.specs.Nodes.{expr_nodes};
 ghost use Rattle.shade_ast.specs.Repeats.{Listed, MaybeListed};
 ghost use Rattle.shade_ast.specs.Shaped.{expr_shape};
-ghost use Rattle.shade_ast.specs.Expressions.{Additive, Call, Expression, LeftSide, LeftSingular, Multiplicative, Primary, Relational, Shift, Singular, TypeName, Unary};
+ghost use Rattle.shade_ast.specs.Expressions.{Additive, Call, Expression, LeftSide, LeftSingular, Multiplicative};
+ghost use Rattle.shade_ast.specs.Expressions.{Primary, Relational, Shift, Singular, TypeName, Unary};
 ghost use Rattle.shade_ast.specs.Steps.{AccessStep, IndexStep, LeftFirst, MemberStep};
 ghost use Rattle.shade_ast.specs.Chains.{Closed, Tail};
 ghost use Rattle.shade_cursor.specs.Operators.{Closing, Joins, NoLeaf, StandsWord};
-ghost use Rattle.shade_parse_expr.specs.Parts.{Faults, ReadsList, ReadsTree};
+ghost use Rattle.shade_parse_expr.specs.Parts.{Parses, ParsesList, ParsesOn};
 ghost use Rattle.shade_parse_expr.specs.Rests.{Called, Compared, JoinPart, Joining, is_bare, joint_rank};
 ghost use Rattle.shade_cursor.specs.Shown.{lexemes};
 
@@ -44,7 +45,7 @@ pub fn expression(
     requires within { from ≤ length pieces.now }
     requires node { node + length pieces.now < 2 ^ 32 + from }
     requires names { length names.old + length pieces.now < 2 ^ 32 + from }
-    ensures tree { MatchResult result (λ p. ReadsTree Expression 7 (lexemes pieces.now) names.new [] from node p) (λ f. Faults Expression 7 (lexemes pieces.now) names.old names.new from f) }
+    ensures tree { Parses Expression 7 (lexemes pieces.now) names.old names.new [] from node result }
     ensures grows { Grows names.old names.new }
     ensures further { IfOk result (λ p. from < p.end) }
     ensures within { IfOk result (λ p. p.end ≤ length pieces.now) }
@@ -75,7 +76,7 @@ fn joined(
     requires names { length names.old + length pieces.now < 2 ^ 32 + first.end }
     requires known { expr_needs first.expr ≤ length names.old }
     requires bare { first.bare ≡ is_bare (expr_shape names.old first.expr) }
-    ensures tree { MatchResult result (λ p. ReadsTree (Joining joint (expr_shape names.old first.expr)) 7 (lexemes pieces.now) names.new (expr_nodes first.expr) (first.end) first.node p) (λ f. Faults (Joining joint (expr_shape names.old first.expr)) 7 (lexemes pieces.now) names.old names.new (first.end) f) }
+    ensures tree { ParsesOn (Joining joint) 7 (lexemes pieces.now) names.old names.new first first.end result }
     ensures grows { Grows names.old names.new }
     ensures further { IfOk result (λ p. first.end ≤ p.end) }
     ensures within { IfOk result (λ p. p.end ≤ length pieces.now) }
@@ -106,7 +107,7 @@ fn join_part(
     requires within { from ≤ length pieces.now }
     requires node { node + length pieces.now < 2 ^ 32 + from }
     requires names { length names.old + length pieces.now < 2 ^ 32 + from }
-    ensures tree { MatchResult result (λ p. ReadsTree (JoinPart joint) (joint_rank joint) (lexemes pieces.now) names.new [] from node p) (λ f. Faults (JoinPart joint) (joint_rank joint) (lexemes pieces.now) names.old names.new from f) }
+    ensures tree { Parses (JoinPart joint) (joint_rank joint) (lexemes pieces.now) names.old names.new [] from node result }
     ensures grows { Grows names.old names.new }
     ensures further { IfOk result (λ p. from < p.end) }
     ensures within { IfOk result (λ p. p.end ≤ length pieces.now) }
@@ -131,7 +132,7 @@ fn relational(
     requires within { from ≤ length pieces.now }
     requires node { node + length pieces.now < 2 ^ 32 + from }
     requires names { length names.old + length pieces.now < 2 ^ 32 + from }
-    ensures tree { MatchResult result (λ p. ReadsTree Relational 6 (lexemes pieces.now) names.new [] from node p) (λ f. Faults Relational 6 (lexemes pieces.now) names.old names.new from f) }
+    ensures tree { Parses Relational 6 (lexemes pieces.now) names.old names.new [] from node result }
     ensures grows { Grows names.old names.new }
     ensures further { IfOk result (λ p. from < p.end) }
     ensures within { IfOk result (λ p. p.end ≤ length pieces.now) }
@@ -158,7 +159,7 @@ fn compared(alloc: Global, pieces: &[Piece], names: &mut Names, left: Part) -> R
     requires names { length names.old + length pieces.now < 2 ^ 32 + left.end }
     requires known { expr_needs left.expr ≤ length names.old }
     requires bare { left.bare ≡ is_bare (expr_shape names.old left.expr) }
-    ensures tree { MatchResult result (λ p. ReadsTree (Compared (expr_shape names.old left.expr)) 6 (lexemes pieces.now) names.new (expr_nodes left.expr) (left.end) left.node p) (λ f. Faults (Compared (expr_shape names.old left.expr)) 6 (lexemes pieces.now) names.old names.new (left.end) f) }
+    ensures tree { ParsesOn Compared 6 (lexemes pieces.now) names.old names.new left left.end result }
     ensures grows { Grows names.old names.new }
     ensures further { IfOk result (λ p. left.end ≤ p.end) }
     ensures within { IfOk result (λ p. p.end ≤ length pieces.now) }
@@ -187,7 +188,7 @@ fn shift(
     requires within { from ≤ length pieces.now }
     requires node { node + length pieces.now < 2 ^ 32 + from }
     requires names { length names.old + length pieces.now < 2 ^ 32 + from }
-    ensures tree { MatchResult result (λ p. ReadsTree Shift 6 (lexemes pieces.now) names.new [] from node p) (λ f. Faults Shift 6 (lexemes pieces.now) names.old names.new from f) }
+    ensures tree { Parses Shift 6 (lexemes pieces.now) names.old names.new [] from node result }
     ensures grows { Grows names.old names.new }
     ensures further { IfOk result (λ p. from < p.end) }
     ensures within { IfOk result (λ p. p.end ≤ length pieces.now) }
@@ -223,7 +224,7 @@ fn additive(
     requires within { from ≤ length pieces.now }
     requires node { node + length pieces.now < 2 ^ 32 + from }
     requires names { length names.old + length pieces.now < 2 ^ 32 + from }
-    ensures tree { MatchResult result (λ p. ReadsTree Additive 4 (lexemes pieces.now) names.new [] from node p) (λ f. Faults Additive 4 (lexemes pieces.now) names.old names.new from f) }
+    ensures tree { Parses Additive 4 (lexemes pieces.now) names.old names.new [] from node result }
     ensures grows { Grows names.old names.new }
     ensures further { IfOk result (λ p. from < p.end) }
     ensures within { IfOk result (λ p. p.end ≤ length pieces.now) }
@@ -253,7 +254,7 @@ fn multiplicative(
     requires within { from ≤ length pieces.now }
     requires node { node + length pieces.now < 2 ^ 32 + from }
     requires names { length names.old + length pieces.now < 2 ^ 32 + from }
-    ensures tree { MatchResult result (λ p. ReadsTree Multiplicative 3 (lexemes pieces.now) names.new [] from node p) (λ f. Faults Multiplicative 3 (lexemes pieces.now) names.old names.new from f) }
+    ensures tree { Parses Multiplicative 3 (lexemes pieces.now) names.old names.new [] from node result }
     ensures grows { Grows names.old names.new }
     ensures further { IfOk result (λ p. from < p.end) }
     ensures within { IfOk result (λ p. p.end ≤ length pieces.now) }
@@ -283,7 +284,7 @@ fn unary(
     requires within { from ≤ length pieces.now }
     requires node { node + length pieces.now < 2 ^ 32 + from }
     requires names { length names.old + length pieces.now < 2 ^ 32 + from }
-    ensures tree { MatchResult result (λ p. ReadsTree Unary 2 (lexemes pieces.now) names.new [] from node p) (λ f. Faults Unary 2 (lexemes pieces.now) names.old names.new from f) }
+    ensures tree { Parses Unary 2 (lexemes pieces.now) names.old names.new [] from node result }
     ensures grows { Grows names.old names.new }
     ensures further { IfOk result (λ p. from < p.end) }
     ensures within { IfOk result (λ p. p.end ≤ length pieces.now) }
@@ -309,7 +310,7 @@ fn singular(
     requires within { from ≤ length pieces.now }
     requires node { node + length pieces.now < 2 ^ 32 + from }
     requires names { length names.old + length pieces.now < 2 ^ 32 + from }
-    ensures tree { MatchResult result (λ p. ReadsTree Singular 2 (lexemes pieces.now) names.new [] from node p) (λ f. Faults Singular 2 (lexemes pieces.now) names.old names.new from f) }
+    ensures tree { Parses Singular 2 (lexemes pieces.now) names.old names.new [] from node result }
     ensures grows { Grows names.old names.new }
     ensures further { IfOk result (λ p. from < p.end) }
     ensures within { IfOk result (λ p. p.end ≤ length pieces.now) }
@@ -328,7 +329,7 @@ fn accesses(alloc: Global, pieces: &[Piece], names: &mut Names, first: Part) -> 
     requires names { length names.old + length pieces.now < 2 ^ 32 + first.end }
     requires known { expr_needs first.expr ≤ length names.old }
     requires bare { first.bare ≡ is_bare (expr_shape names.old first.expr) }
-    ensures tree { MatchResult result (λ p. ReadsTree (Tail AccessStep (expr_shape names.old first.expr)) 2 (lexemes pieces.now) names.new (expr_nodes first.expr) (first.end) first.node p) (λ f. Faults (Tail AccessStep (expr_shape names.old first.expr)) 2 (lexemes pieces.now) names.old names.new (first.end) f) }
+    ensures tree { ParsesOn (Tail AccessStep) 2 (lexemes pieces.now) names.old names.new first first.end result }
     ensures grows { Grows names.old names.new }
     ensures further { IfOk result (λ p. first.end ≤ p.end) }
     ensures within { IfOk result (λ p. p.end ≤ length pieces.now) }
@@ -360,7 +361,7 @@ fn by_name(
     requires names { length names.old + length pieces.now < 2 ^ 32 + whole.end }
     requires known { expr_needs whole.expr ≤ length names.old }
     requires bare { whole.bare ≡ is_bare (expr_shape names.old whole.expr) }
-    ensures tree { MatchResult result (λ p. ReadsTree (MemberStep (expr_shape names.old whole.expr) dot) 1 (lexemes pieces.now) names.new (expr_nodes whole.expr) (whole.end + 1) whole.node p) (λ f. Faults (MemberStep (expr_shape names.old whole.expr) dot) 1 (lexemes pieces.now) names.old names.new (whole.end + 1) f) }
+    ensures tree { ParsesOn (λ l. MemberStep l dot) 1 (lexemes pieces.now) names.old names.new whole (whole.end + 1) result }
     ensures grows { Grows names.old names.new }
     ensures further { IfOk result (λ p. whole.end + 1 < p.end) }
     ensures within { IfOk result (λ p. p.end ≤ length pieces.now) }
@@ -391,7 +392,7 @@ fn by_index(
     requires names { length names.old + length pieces.now < 2 ^ 32 + whole.end }
     requires known { expr_needs whole.expr ≤ length names.old }
     requires bare { whole.bare ≡ is_bare (expr_shape names.old whole.expr) }
-    ensures tree { MatchResult result (λ p. ReadsTree (IndexStep (expr_shape names.old whole.expr) bracket) 1 (lexemes pieces.now) names.new (expr_nodes whole.expr) (whole.end + 1) whole.node p) (λ f. Faults (IndexStep (expr_shape names.old whole.expr) bracket) 1 (lexemes pieces.now) names.old names.new (whole.end + 1) f) }
+    ensures tree { ParsesOn (λ l. IndexStep l bracket) 1 (lexemes pieces.now) names.old names.new whole (whole.end + 1) result }
     ensures grows { Grows names.old names.new }
     ensures further { IfOk result (λ p. whole.end + 1 < p.end) }
     ensures within { IfOk result (λ p. p.end ≤ length pieces.now) }
@@ -420,7 +421,7 @@ fn primary(
     requires within { from ≤ length pieces.now }
     requires node { node + length pieces.now < 2 ^ 32 + from }
     requires names { length names.old + length pieces.now < 2 ^ 32 + from }
-    ensures tree { MatchResult result (λ p. ReadsTree Primary 1 (lexemes pieces.now) names.new [] from node p) (λ f. Faults Primary 1 (lexemes pieces.now) names.old names.new from f) }
+    ensures tree { Parses Primary 1 (lexemes pieces.now) names.old names.new [] from node result }
     ensures grows { Grows names.old names.new }
     ensures further { IfOk result (λ p. from < p.end) }
     ensures within { IfOk result (λ p. p.end ≤ length pieces.now) }
@@ -455,7 +456,7 @@ fn in_parens(
     requires node { node + length pieces.now < 2 ^ 32 + from }
     requires names { length names.old + length pieces.now < 2 ^ 32 + from }
     requires none { NoLeaf (lexemes pieces.now) from }
-    ensures tree { MatchResult result (λ p. ReadsTree Primary 1 (lexemes pieces.now) names.new [] from node p) (λ f. Faults Primary 1 (lexemes pieces.now) names.old names.new from f) }
+    ensures tree { Parses Primary 1 (lexemes pieces.now) names.old names.new [] from node result }
     ensures grows { Grows names.old names.new }
     ensures further { IfOk result (λ p. from < p.end) }
     ensures within { IfOk result (λ p. p.end ≤ length pieces.now) }
@@ -485,7 +486,7 @@ fn call_or_type(
     requires node { node + length pieces.now < 2 ^ 32 + from }
     requires names { length names.old + length pieces.now < 2 ^ 32 + from }
     requires word { StandsWord (lexemes pieces.now) from }
-    ensures tree { MatchResult result (λ p. ReadsTree Primary 1 (lexemes pieces.now) names.new [] from node p) (λ f. Faults Primary 1 (lexemes pieces.now) names.old names.new from f) }
+    ensures tree { Parses Primary 1 (lexemes pieces.now) names.old names.new [] from node result }
     ensures grows { Grows names.old names.new }
     ensures further { IfOk result (λ p. from < p.end) }
     ensures within { IfOk result (λ p. p.end ≤ length pieces.now) }
@@ -511,7 +512,7 @@ pub fn call_only(
     requires within { from ≤ length pieces.now }
     requires node { node + length pieces.now < 2 ^ 32 + from }
     requires names { length names.old + length pieces.now < 2 ^ 32 + from }
-    ensures tree { MatchResult result (λ p. ReadsTree Call 1 (lexemes pieces.now) names.new [] from node p) (λ f. Faults Call 1 (lexemes pieces.now) names.old names.new from f) }
+    ensures tree { Parses Call 1 (lexemes pieces.now) names.old names.new [] from node result }
     ensures grows { Grows names.old names.new }
     ensures further { IfOk result (λ p. from < p.end) }
     ensures within { IfOk result (λ p. p.end ≤ length pieces.now) }
@@ -533,7 +534,7 @@ fn called(alloc: Global, pieces: &[Piece], names: &mut Names, callee: Part) -> R
     requires names { length names.old + length pieces.now < 2 ^ 32 + callee.end }
     requires known { expr_needs callee.expr ≤ length names.old }
     requires bare { callee.bare ≡ is_bare (expr_shape names.old callee.expr) }
-    ensures tree { MatchResult result (λ p. ReadsTree (Called (expr_shape names.old callee.expr)) 1 (lexemes pieces.now) names.new (expr_nodes callee.expr) (callee.end + 1) callee.node p) (λ f. Faults (Called (expr_shape names.old callee.expr)) 1 (lexemes pieces.now) names.old names.new (callee.end + 1) f) }
+    ensures tree { ParsesOn Called 1 (lexemes pieces.now) names.old names.new callee (callee.end + 1) result }
     ensures grows { Grows names.old names.new }
     ensures further { IfOk result (λ p. callee.end + 1 < p.end) }
     ensures within { IfOk result (λ p. p.end ≤ length pieces.now) }
@@ -560,7 +561,7 @@ pub fn type_name(
     requires within { from ≤ length pieces.now }
     requires node { node + length pieces.now < 2 ^ 32 + from }
     requires names { length names.old + length pieces.now < 2 ^ 32 + from }
-    ensures tree { MatchResult result (λ p. ReadsTree TypeName 0 (lexemes pieces.now) names.new [] from node p) (λ f. Faults TypeName 0 (lexemes pieces.now) names.old names.new from f) }
+    ensures tree { Parses TypeName 0 (lexemes pieces.now) names.old names.new [] from node result }
     ensures grows { Grows names.old names.new }
     ensures further { IfOk result (λ p. from < p.end) }
     ensures within { IfOk result (λ p. p.end ≤ length pieces.now) }
@@ -590,7 +591,7 @@ pub fn arguments(
     requires within { from ≤ length pieces.now }
     requires node { node + length pieces.now < 2 ^ 32 + from }
     requires names { length names.old + length pieces.now < 2 ^ 32 + from }
-    ensures tree { MatchResult result (λ p. ReadsList (Closed (MaybeListed Expression) (Mark sign_.Close)) 0 (lexemes pieces.now) names.new from node p) (λ f. Faults (Closed (MaybeListed Expression) (Mark sign_.Close)) 0 (lexemes pieces.now) names.old names.new from f) }
+    ensures tree { ParsesList (Closed (MaybeListed Expression) (Mark sign_.Close)) 0 (lexemes pieces.now) names.old names.new from node result }
     ensures grows { Grows names.old names.new }
     ensures further { IfOk result (λ p. from < p.end) }
     ensures within { IfOk result (λ p. p.end ≤ length pieces.now) }
@@ -622,7 +623,7 @@ fn list(
     requires node { start + length pieces.now < 2 ^ 32 + from }
     requires names { length names.old + length pieces.now < 2 ^ 32 + from }
     requires closes { Closing closer }
-    ensures tree { MatchResult result (λ p. ReadsList (Closed (Listed Expression) (Mark closer)) 0 (lexemes pieces.now) names.new from start p) (λ f. Faults (Closed (Listed Expression) (Mark closer)) 0 (lexemes pieces.now) names.old names.new from f) }
+    ensures tree { ParsesList (Closed (Listed Expression) (Mark closer)) 0 (lexemes pieces.now) names.old names.new from start result }
     ensures grows { Grows names.old names.new }
     ensures further { IfOk result (λ p. from < p.end) }
     ensures within { IfOk result (λ p. p.end ≤ length pieces.now) }
@@ -675,7 +676,7 @@ pub fn left_side(
     requires within { from ≤ length pieces.now }
     requires node { node + length pieces.now < 2 ^ 32 + from }
     requires names { length names.old + length pieces.now < 2 ^ 32 + from }
-    ensures tree { MatchResult result (λ p. ReadsTree LeftSide 2 (lexemes pieces.now) names.new [] from node p) (λ f. Faults LeftSide 2 (lexemes pieces.now) names.old names.new from f) }
+    ensures tree { Parses LeftSide 2 (lexemes pieces.now) names.old names.new [] from node result }
     ensures grows { Grows names.old names.new }
     ensures further { IfOk result (λ p. from < p.end) }
     ensures within { IfOk result (λ p. p.end ≤ length pieces.now) }
@@ -701,7 +702,7 @@ fn left_singular(
     requires within { from ≤ length pieces.now }
     requires node { node + length pieces.now < 2 ^ 32 + from }
     requires names { length names.old + length pieces.now < 2 ^ 32 + from }
-    ensures tree { MatchResult result (λ p. ReadsTree LeftSingular 2 (lexemes pieces.now) names.new [] from node p) (λ f. Faults LeftSingular 2 (lexemes pieces.now) names.old names.new from f) }
+    ensures tree { Parses LeftSingular 2 (lexemes pieces.now) names.old names.new [] from node result }
     ensures grows { Grows names.old names.new }
     ensures further { IfOk result (λ p. from < p.end) }
     ensures within { IfOk result (λ p. p.end ≤ length pieces.now) }
@@ -724,7 +725,7 @@ fn left_first(
     requires within { from ≤ length pieces.now }
     requires node { node + length pieces.now < 2 ^ 32 + from }
     requires names { length names.old + length pieces.now < 2 ^ 32 + from }
-    ensures tree { MatchResult result (λ p. ReadsTree LeftFirst 1 (lexemes pieces.now) names.new [] from node p) (λ f. Faults LeftFirst 1 (lexemes pieces.now) names.old names.new from f) }
+    ensures tree { Parses LeftFirst 1 (lexemes pieces.now) names.old names.new [] from node result }
     ensures grows { Grows names.old names.new }
     ensures further { IfOk result (λ p. from < p.end) }
     ensures within { IfOk result (λ p. p.end ≤ length pieces.now) }
