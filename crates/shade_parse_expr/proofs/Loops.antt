@@ -42,7 +42,8 @@ module _ (tokens : List Lexeme) (from at : ℕ) (l : ExprShape) (s : Stage Multi
     pub factor_more : (b : ExprShape) → Reads Unary 2 tokens (at + 1) b to → Stage Multiplicative 3 tokens from to (Tail Factor (infixed (place_of l) l i p b))
     factor_more b x =
         let t = factor_token in
-        left_more Multiplicative Unary Factor 3 2 factors tokens from Unary 2 (λ l b. infixed (place_of l) l i p b) t.token (omega arith) factor_ranks (factor_low t.token i p t.tells) at l (factor_there t.token i p t.tells l) (factor_here t.token i p t.tells l) t.stands s to b (infixed (place_of l) l i p b) refl x
+        left_more Multiplicative Unary Factor 3 2 factors tokens from Unary 2 (λ l b. infixed (place_of l) l i p b) t.token (omega arith) factor_ranks (factor_low t.token i p t.tells) at l
+        (factor_there t.token i p t.tells l) (factor_here t.token i p t.tells l) t.stands s to b (infixed (place_of l) l i p b) refl x
 
     pub factor_fails : Fails Unary 2 tokens (at + 1) to → Fails Multiplicative 3 tokens from to
     factor_fails f =
@@ -60,7 +61,8 @@ module _ (tokens : List Lexeme) (from at : ℕ) (l : ExprShape) (s : Stage Addit
     pub term_more : (b : ExprShape) → Reads Multiplicative 3 tokens (at + 1) b to → Stage Additive 4 tokens from to (Tail Term (infixed (place_of l) l i p b))
     term_more b x =
         let t = term_token in
-        left_more Additive Multiplicative Term 4 3 terms tokens from Multiplicative 3 (λ l b. infixed (place_of l) l i p b) t.token (omega arith) term_ranks (term_low t.token i p t.tells) at l (term_there t.token i p t.tells l) (term_here t.token i p t.tells l) t.stands s to b (infixed (place_of l) l i p b) refl x
+        left_more Additive Multiplicative Term 4 3 terms tokens from Multiplicative 3 (λ l b. infixed (place_of l) l i p b) t.token (omega arith) term_ranks (term_low t.token i p t.tells) at l
+        (term_there t.token i p t.tells l) (term_here t.token i p t.tells l) t.stands s to b (infixed (place_of l) l i p b) refl x
 
     pub term_fails : Fails Multiplicative 3 tokens (at + 1) to → Fails Additive 4 tokens from to
     term_fails f =

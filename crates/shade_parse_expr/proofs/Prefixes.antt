@@ -7,7 +7,8 @@ use Rattle.shade_ast.specs.declared.lexeme.Keyword.TheVariants as word
 use Rattle.shade_ast.specs.declared.lexeme.Sign.TheVariants as sign
 use Rattle.shade_ast.specs.Lexemes.{Lexeme, Word, Key, Number, Mark}
 use Rattle.shade_ast.specs.Shapes.{ExprShape, prefixed}
-use Rattle.shade_ast.specs.Expressions.{calls, LeftSide, left_deref, left_address_of, left_singular, LeftSingular, left_name, left_parens, left_accessed, Primary, called, typed, numeral, true_word, false_word, parens, Singular, primary, accessed, TypeName, plain_type, template_type, Unary, negate, not, complement, deref, address_of, operand}
+use Rattle.shade_ast.specs.Expressions.{calls, LeftSide, left_deref, left_address_of, left_singular, LeftSingular, left_name, left_parens, left_accessed, Primary, called, typed, numeral, true_word, false_word}
+use Rattle.shade_ast.specs.Expressions.{parens, Singular, primary, accessed, TypeName, plain_type, template_type, Unary, negate, not, complement, deref, address_of, operand}
 use Rattle.shade_ast.specs.Reads.{Near, Reads, Fails, rank, rank_of}
 use Rattle.shade_ast.proofs.Stages.{Stage, Closes, near_get, begin, change, consume, phrase, phrase_fails, finish_ends, ends_stops, closes_end, stuck}
 use Rattle.shade_ast.specs.Chains.{After, Ends}
