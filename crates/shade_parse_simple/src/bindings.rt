@@ -11,7 +11,7 @@ ghost use Rattle.shade_parse_simple.specs.Rests.{Bound, SpaceEnd};
 ghost use Rattle.shade_parse_expr.specs.Parts.{Faults};
 ghost use Rattle.shade_cursor.specs.Shown.{lexemes};
 
-use crate::read::Read;
+use crate::read::{Read, refuse};
 use crate::tokens::{closed, name};
 use shade_ast::{Binding, Expr, Keyword, Named, Names, Sign, Var, VarSpace};
 use shade_base::Place;
@@ -165,7 +165,10 @@ pub fn bound(
 {
     let name = name(pieces, names, from, node)?;
     let ty = maybe_type(alloc, pieces, names, name.end, name.node)?;
-    let value = has_value(alloc, pieces, names, ty.end, ty.node)?;
+    let value = match has_value(alloc, pieces, names, ty.end, ty.node) {
+        Ok(value) => value,
+        Err(fault) => return refuse(fault, ty),
+    };
     Ok(Read {
         tree: Binding {
             keyword,
@@ -283,7 +286,10 @@ pub fn var(
     let space = maybe_space(pieces, names, from + 1, node)?;
     let name = name(pieces, names, space.end, space.node)?;
     let ty = maybe_type(alloc, pieces, names, name.end, name.node)?;
-    let value = maybe_value(alloc, pieces, names, ty.end, ty.node)?;
+    let value = match maybe_value(alloc, pieces, names, ty.end, ty.node) {
+        Ok(value) => value,
+        Err(fault) => return refuse(fault, ty),
+    };
     Ok(Read {
         tree: Var {
             keyword,

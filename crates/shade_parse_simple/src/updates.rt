@@ -12,7 +12,7 @@ ghost use Rattle.shade_cursor.specs.Shown.{lexemes};
 
 use crate::bindings::{bound, var};
 use crate::operators::{assigning, begins_call};
-use crate::read::Read;
+use crate::read::{Read, refuse};
 use shade_ast::{Expr, Keyword, Names, OpAssign, Sign, Simple, Update};
 use shade_base::Place;
 use shade_cursor::part::Fault;
@@ -179,8 +179,15 @@ fn changed(
             node: target.node,
         });
     }
-    let (operator, at, behind) = assigning(pieces, target.end)?;
-    let value = expression(alloc, pieces, names, behind, target.node)?;
+    let found = match assigning(pieces, target.end) {
+        Ok(found) => found,
+        Err(fault) => return refuse(fault, target),
+    };
+    let (operator, at, behind) = found;
+    let value = match expression(alloc, pieces, names, behind, target.node) {
+        Ok(value) => value,
+        Err(fault) => return refuse(fault, target),
+    };
     Ok(Read {
         tree: assigned(target.expr, operator, at, value.expr),
         end: value.end,

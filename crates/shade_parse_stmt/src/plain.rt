@@ -17,7 +17,7 @@ use shade_ast::{Expr, Keyword, Names, Selector, Sign, Simple, Stmt, StmtKind, Up
 use shade_cursor::part::Fault;
 use shade_cursor::piece::{Piece, key_at, mark_at};
 use shade_parse_expr::parse::expression;
-use shade_parse_simple::read::Read;
+use shade_parse_simple::read::{Read, refuse};
 use shade_parse_simple::updates::{simple, update};
 use sqlite_items::Items;
 use std::alloc::Global;
@@ -48,9 +48,9 @@ pub fn value_until(
         });
     }
     let value = expression(alloc, pieces, names, from, node)?;
-    if !is_mark(pieces, value.end, Sign::Semicolon) {
-        return Err(Fault::Unexpected(value.end));
-    }
+    let Some(_) = mark_at(pieces, value.end, Sign::Semicolon) else {
+        return refuse(Fault::Unexpected(value.end), value);
+    };
     Ok(Read {
         tree: Some(value.expr),
         end: value.end + 1,
@@ -77,9 +77,9 @@ pub fn value_end(
     ensures names { IfOk result (λ r. length names.new + from ≤ length names.old + r.end) }
 {
     let value = expression(alloc, pieces, names, from, node)?;
-    if !is_mark(pieces, value.end, Sign::Semicolon) {
-        return Err(Fault::Unexpected(value.end));
-    }
+    let Some(_) = mark_at(pieces, value.end, Sign::Semicolon) else {
+        return refuse(Fault::Unexpected(value.end), value);
+    };
     Ok(Read {
         tree: value.expr,
         end: value.end + 1,
@@ -175,7 +175,7 @@ pub fn leave(
 {
     let condition = value_end(alloc, pieces, names, from, node)?;
     let Some(end) = mark_at(pieces, condition.end, Sign::CloseBrace) else {
-        return Err(Fault::Unexpected(condition.end));
+        return refuse(Fault::Unexpected(condition.end), condition);
     };
     Ok(Read {
         tree: Leave {

@@ -27,7 +27,7 @@ use shade_cursor::part::Fault;
 use shade_cursor::piece::{Piece, key_at, mark_at};
 use shade_parse_expr::parse::expression;
 use shade_parse_simple::attributes::attributes;
-use shade_parse_simple::read::Read;
+use shade_parse_simple::read::{Read, refuse};
 use sqlite_items::Items;
 use std::alloc::Global;
 
@@ -178,7 +178,10 @@ fn compound(
     }
     if let Some(keyword) = key_at(pieces, at, Keyword::If) {
         let first = guarded(alloc, pieces, names, at + 1, attrs.node)?;
-        let others = branches(alloc, pieces, names, first.end, first.node)?;
+        let others = match branches(alloc, pieces, names, first.end, first.node) {
+            Ok(others) => others,
+            Err(fault) => return refuse(fault, first),
+        };
         return Ok(if_statement(attrs.tree, keyword, first.tree, others));
     }
     if let Some(keyword) = key_at(pieces, at, Keyword::Switch) {
@@ -220,7 +223,10 @@ fn guarded(
     ensures names { IfOk result (λ r. length names.new + from ≤ length names.old + r.end) }
 {
     let condition = expression(alloc, pieces, names, from, node)?;
-    let body = block(alloc, pieces, names, condition.end, condition.node)?;
+    let body = match block(alloc, pieces, names, condition.end, condition.node) {
+        Ok(body) => body,
+        Err(fault) => return refuse(fault, condition),
+    };
     Ok(Read {
         tree: Guarded {
             condition: condition.expr,
@@ -330,13 +336,19 @@ fn switch_parts(
     ensures names { IfOk result (λ r. length names.new + from ≤ length names.old + r.end) }
 {
     let selector = expression(alloc, pieces, names, from, node)?;
-    let inner = attributes(alloc, pieces, names, selector.end, selector.node)?;
-    if !is_mark(pieces, inner.end, Sign::OpenBrace) {
-        return Err(Fault::Unexpected(inner.end));
-    }
-    let list = clauses(alloc, pieces, names, inner.end + 1, inner.node)?;
+    let inner = match attributes(alloc, pieces, names, selector.end, selector.node) {
+        Ok(inner) => inner,
+        Err(fault) => return refuse(fault, selector),
+    };
+    let Some(_) = mark_at(pieces, inner.end, Sign::OpenBrace) else {
+        return refuse(Fault::Unexpected(inner.end), (selector, inner));
+    };
+    let list = match clauses(alloc, pieces, names, inner.end + 1, inner.node) {
+        Ok(list) => list,
+        Err(fault) => return refuse(fault, (selector, inner)),
+    };
     let Some(end) = mark_at(pieces, list.end, Sign::CloseBrace) else {
-        return Err(Fault::Unexpected(list.end));
+        return refuse(Fault::Unexpected(list.end), (selector, inner, list));
     };
     let tree = SwitchParts {
         selector: selector.expr,
@@ -486,9 +498,9 @@ fn loop_parts(
     ensures names { IfOk result (λ r. length names.new + from ≤ length names.old + r.end) }
 {
     let inner = attributes(alloc, pieces, names, from, node)?;
-    if !is_mark(pieces, inner.end, Sign::OpenBrace) {
+    let Some(_) = mark_at(pieces, inner.end, Sign::OpenBrace) else {
         return Err(Fault::Unexpected(inner.end));
-    }
+    };
     let body = statements(alloc, pieces, names, inner.end + 1, inner.node)?;
     let last = loop_end(alloc, pieces, names, body.end, body.node)?;
     let tree = LoopParts {
@@ -538,7 +550,7 @@ fn loop_end(
     };
     let part = continuing(alloc, pieces, names, from + 1, node, keyword)?;
     let Some(end) = mark_at(pieces, part.end, Sign::CloseBrace) else {
-        return Err(Fault::Unexpected(part.end));
+        return refuse(Fault::Unexpected(part.end), part);
     };
     Ok(Read {
         tree: LoopEnd {
@@ -571,9 +583,9 @@ fn continuing(
     ensures names { IfOk result (λ r. length names.new + from ≤ length names.old + r.end) }
 {
     let attrs = attributes(alloc, pieces, names, from, node)?;
-    if !is_mark(pieces, attrs.end, Sign::OpenBrace) {
+    let Some(_) = mark_at(pieces, attrs.end, Sign::OpenBrace) else {
         return Err(Fault::Unexpected(attrs.end));
-    }
+    };
     let body = last_body(alloc, pieces, names, attrs.end + 1, attrs.node)?;
     Ok(Read {
         tree: continuing_of(keyword, attrs.tree, body.tree),

@@ -17,3 +17,15 @@ returns-in_err-name-clause-tree c = errs _ c.in_err-name.field-0.0 _ _ c.from_re
 
 pub returns-clause-tree : goal.returns-clause-tree
 returns-clause-tree c = record { reads = attr_name_reads (within c.args.pieces.now c.args.from c.requires.within) c.in_default.ensures.value c.in_default-key_at.ensures.value c.in_ok-name.ensures.tree.reads; known = c.in_ok-name.ensures.tree.known; nodes = c.in_ok-name.ensures.tree.nodes }
+
+pub returns-clause-further : goal.returns-clause-further
+returns-clause-further c = omega (arith, c.in_ok-name.ensures.further)
+
+pub returns-clause-within : goal.returns-clause-within
+returns-clause-within c = omega (arith, c.in_ok-name.ensures.within)
+
+pub returns-clause-node : goal.returns-clause-node
+returns-clause-node c = omega (arith, c.in_ok-name.ensures.node)
+
+pub returns-clause-names : goal.returns-clause-names
+returns-clause-names c = omega (arith, c.in_ok-name.ensures.names)

@@ -2,6 +2,7 @@ use Rattle.std.proofs.Common.{◌+◌, arith}
 use Rattle.shade_ast.specs.declared.lexeme.Sign.TheVariants as sign
 use Rattle.shade_ast.specs.Lexemes.{Mark}
 use Rattle.shade_ast.specs.Statements.{AttrName, AttrArguments, Attribute}
+use Rattle.shade_ast.proofs.ShapeLaws.{grows_trans}
 use Rattle.shade_cursor.specs.Shown.{lexemes}
 use Rattle.shade_parse_expr.proofs.Turns.{errs, fault_on, fails_here}
 use Rattle.shade_parse_simple.proofs.Faulty.{within, fault_of}
@@ -21,3 +22,30 @@ returns-in_err-listed-clause-tree c = errs _ c.in_err-listed.field-0.0 _ _ c.fro
 
 pub returns-clause-tree : goal.returns-clause-tree
 returns-clause-tree c = attr_tree (within c.args.pieces.now c.args.from c.requires.within) c.in-Some.ensures.value (widen attr_name_keeps c.in_ok-listed.ensures.grows c.in_ok-name.ensures.tree) c.in_ok-listed.ensures.tree
+
+pub maybe_arguments-requires-clause-within : goal.maybe_arguments-requires-clause-within
+maybe_arguments-requires-clause-within c = omega (arith, c.in_ok-name.ensures.within)
+
+pub maybe_arguments-requires-clause-node : goal.maybe_arguments-requires-clause-node
+maybe_arguments-requires-clause-node c = omega (arith, c.in_ok-name.ensures.node)
+
+pub maybe_arguments-requires-clause-names : goal.maybe_arguments-requires-clause-names
+maybe_arguments-requires-clause-names c = omega (arith, c.in_ok-name.ensures.names)
+
+pub returns-in_err-listed-clause-grows : goal.returns-in_err-listed-clause-grows
+returns-in_err-listed-clause-grows c = grows_trans _ _ _ c.in_ok-name.ensures.grows c.in_err-listed.ensures.grows
+
+pub returns-clause-grows : goal.returns-clause-grows
+returns-clause-grows c = grows_trans _ _ _ c.in_ok-name.ensures.grows c.in_ok-listed.ensures.grows
+
+pub returns-clause-further : goal.returns-clause-further
+returns-clause-further c = omega (arith, c.in_ok-name.ensures.further, c.in_ok-listed.ensures.further)
+
+pub returns-clause-within : goal.returns-clause-within
+returns-clause-within c = omega (arith, c.in_ok-listed.ensures.within)
+
+pub returns-clause-node : goal.returns-clause-node
+returns-clause-node c = omega (arith, c.in_ok-name.ensures.node, c.in_ok-listed.ensures.node)
+
+pub returns-clause-names : goal.returns-clause-names
+returns-clause-names c = omega (arith, c.in_ok-name.ensures.names, c.in_ok-listed.ensures.names)

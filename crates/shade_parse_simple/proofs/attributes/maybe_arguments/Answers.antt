@@ -14,3 +14,15 @@ returns-in_err-list-clause-tree c = errs _ c.in_err-list.field-0.0 _ _ c.from_re
 
 pub returns-clause-tree : goal.returns-clause-tree
 returns-clause-tree c = arguments_tree (within c.args.pieces.now c.args.from c.requires.within) c.in-Some.ensures.value (omega (arith, c.in_ok-list.ensures.further)) c.in_ok-list.ensures.tree
+
+pub returns-clause-further : goal.returns-clause-further
+returns-clause-further c = omega (arith, c.in_ok-list.ensures.further)
+
+pub returns-clause-within : goal.returns-clause-within
+returns-clause-within c = omega (arith, c.in_ok-list.ensures.within)
+
+pub returns-clause-node : goal.returns-clause-node
+returns-clause-node c = omega (arith, c.in_ok-list.ensures.node)
+
+pub returns-clause-names : goal.returns-clause-names
+returns-clause-names c = omega (arith, c.in_ok-list.ensures.names)

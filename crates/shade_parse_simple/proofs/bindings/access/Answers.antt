@@ -26,3 +26,18 @@ returns-in_err-trailing-clause-tree c = errs _ c.in_err-trailing.field-0.0 _ _ c
 
 pub returns-clause-tree : goal.returns-clause-tree
 returns-clause-tree c = access_tree (within c.args.pieces.now c.args.from c.requires.within) c.in_default.ensures.value c.in-Some-mark_at.ensures.value c.in_default-mark_at-2.ensures.value c.in_ok-name.ensures.tree c.in_ok-trailing.ensures.tree
+
+pub closed-requires-clause-within : goal.closed-requires-clause-within
+closed-requires-clause-within c = omega (arith, c.in_ok-name.ensures.within)
+
+pub returns-clause-further : goal.returns-clause-further
+returns-clause-further c = omega (arith, c.in_ok-name.ensures.further, c.in_ok-trailing.ensures.further, c.in_ok-trailing.ensures.within)
+
+pub returns-clause-within : goal.returns-clause-within
+returns-clause-within c = omega (arith, c.in_ok-trailing.ensures.further, c.in_ok-trailing.ensures.within)
+
+pub returns-clause-node : goal.returns-clause-node
+returns-clause-node c = omega (arith, c.in_ok-name.ensures.node, c.in_ok-trailing.ensures.further, c.in_ok-trailing.ensures.within)
+
+pub returns-clause-names : goal.returns-clause-names
+returns-clause-names c = omega (arith, c.in_ok-name.ensures.names, c.in_ok-trailing.ensures.further, c.in_ok-trailing.ensures.within)

@@ -3,6 +3,7 @@ use Rattle.shade_ast.specs.declared.lexeme.Sign.TheVariants as sign
 use Rattle.shade_ast.specs.Lexemes.{Mark}
 use Rattle.shade_ast.specs.Statements.{Name, VarSpace}
 use Rattle.shade_parse_simple.specs.Rests.{SpaceEnd}
+use Rattle.shade_ast.proofs.ShapeLaws.{grows_trans}
 use Rattle.shade_cursor.specs.Shown.{lexemes}
 use Rattle.shade_parse_expr.proofs.Turns.{errs}
 use Rattle.shade_parse_simple.proofs.Faulty.{within, fault_in}
@@ -20,3 +21,30 @@ returns-in_err-access-clause-tree c = errs _ c.in_err-access.field-0.0 _ _ c.fro
 
 pub returns-clause-tree : goal.returns-clause-tree
 returns-clause-tree c = space_tree (within c.args.pieces.now c.args.from c.requires.within) c.in-Some.ensures.value (within c.args.pieces.now (c.args.from + 1) (omega (arith, c.in-Some.ensures.within))) (omega (arith, c.in_ok-space.ensures.further, c.in_ok-access.ensures.further)) (widen named_keeps c.in_ok-access.ensures.grows c.in_ok-space.ensures.tree) c.in_ok-access.ensures.tree
+
+pub access-requires-clause-within : goal.access-requires-clause-within
+access-requires-clause-within c = omega (arith, c.in_ok-space.ensures.within)
+
+pub access-requires-clause-node : goal.access-requires-clause-node
+access-requires-clause-node c = omega (arith, c.in_ok-space.ensures.node)
+
+pub access-requires-clause-names : goal.access-requires-clause-names
+access-requires-clause-names c = omega (arith, c.in_ok-space.ensures.names)
+
+pub returns-in_err-access-clause-grows : goal.returns-in_err-access-clause-grows
+returns-in_err-access-clause-grows c = grows_trans _ _ _ c.in_ok-space.ensures.grows c.in_err-access.ensures.grows
+
+pub returns-clause-grows : goal.returns-clause-grows
+returns-clause-grows c = grows_trans _ _ _ c.in_ok-space.ensures.grows c.in_ok-access.ensures.grows
+
+pub returns-clause-further : goal.returns-clause-further
+returns-clause-further c = omega (arith, c.in_ok-space.ensures.further, c.in_ok-access.ensures.further)
+
+pub returns-clause-within : goal.returns-clause-within
+returns-clause-within c = omega (arith, c.in_ok-access.ensures.within)
+
+pub returns-clause-node : goal.returns-clause-node
+returns-clause-node c = omega (arith, c.in_ok-space.ensures.node, c.in_ok-access.ensures.node)
+
+pub returns-clause-names : goal.returns-clause-names
+returns-clause-names c = omega (arith, c.in_ok-space.ensures.names, c.in_ok-access.ensures.names)

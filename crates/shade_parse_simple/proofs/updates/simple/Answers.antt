@@ -32,3 +32,51 @@ returns-in_err-changed-clause-tree c = errs _ c.in_err-changed.field-0.0 _ _ c.f
 
 pub returns-clause-tree : goal.returns-clause-tree
 returns-clause-tree c = update_tree (λ s. told_none _ _ _ (sym c.if-is_some.ensures) c.key_at.ensures.value s.0 s.1) (λ s. c.in_default.ensures.value s.0 s.1) (λ s. c.in_default-key_at.ensures.value s.0 s.1) c.in_ok-changed.ensures.tree
+
+pub returns-then-is_some-clause-further : goal.returns-then-is_some-clause-further
+returns-then-is_some-clause-further c = omega (arith, c.in_ok-variable.ensures.further)
+
+pub returns-then-is_some-clause-within : goal.returns-then-is_some-clause-within
+returns-then-is_some-clause-within c = omega (arith, c.in_ok-variable.ensures.within)
+
+pub returns-then-is_some-clause-node : goal.returns-then-is_some-clause-node
+returns-then-is_some-clause-node c = omega (arith, c.in_ok-variable.ensures.node)
+
+pub returns-then-is_some-clause-names : goal.returns-then-is_some-clause-names
+returns-then-is_some-clause-names c = omega (arith, c.in_ok-variable.ensures.names)
+
+pub returns-in-Some-clause-further : goal.returns-in-Some-clause-further
+returns-in-Some-clause-further c = omega (arith, c.in_ok-constant.ensures.further)
+
+pub returns-in-Some-clause-within : goal.returns-in-Some-clause-within
+returns-in-Some-clause-within c = omega (arith, c.in_ok-constant.ensures.within)
+
+pub returns-in-Some-clause-node : goal.returns-in-Some-clause-node
+returns-in-Some-clause-node c = omega (arith, c.in_ok-constant.ensures.node)
+
+pub returns-in-Some-clause-names : goal.returns-in-Some-clause-names
+returns-in-Some-clause-names c = omega (arith, c.in_ok-constant.ensures.names)
+
+pub returns-in-Some-key_at-clause-further : goal.returns-in-Some-key_at-clause-further
+returns-in-Some-key_at-clause-further c = omega (arith, c.in_ok-value.ensures.further)
+
+pub returns-in-Some-key_at-clause-within : goal.returns-in-Some-key_at-clause-within
+returns-in-Some-key_at-clause-within c = omega (arith, c.in_ok-value.ensures.within)
+
+pub returns-in-Some-key_at-clause-node : goal.returns-in-Some-key_at-clause-node
+returns-in-Some-key_at-clause-node c = omega (arith, c.in_ok-value.ensures.node)
+
+pub returns-in-Some-key_at-clause-names : goal.returns-in-Some-key_at-clause-names
+returns-in-Some-key_at-clause-names c = omega (arith, c.in_ok-value.ensures.names)
+
+pub returns-clause-further : goal.returns-clause-further
+returns-clause-further c = omega (arith, c.in_ok-changed.ensures.further)
+
+pub returns-clause-within : goal.returns-clause-within
+returns-clause-within c = omega (arith, c.in_ok-changed.ensures.within)
+
+pub returns-clause-node : goal.returns-clause-node
+returns-clause-node c = omega (arith, c.in_ok-changed.ensures.node)
+
+pub returns-clause-names : goal.returns-clause-names
+returns-clause-names c = omega (arith, c.in_ok-changed.ensures.names)

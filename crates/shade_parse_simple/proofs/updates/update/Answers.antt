@@ -14,3 +14,15 @@ returns-in_err-callee-clause-tree c = errs _ c.in_err-callee.field-0.0 _ _ c.fro
 
 pub returns-clause-tree : goal.returns-clause-tree
 returns-clause-tree c = call_tree (within c.args.pieces.now c.args.from c.requires.within) (c.if-not-begins_call.ensures.0 refl) c.in_ok-callee.ensures.further (part_reads c.in_ok-callee.ensures.tree)
+
+pub returns-clause-further : goal.returns-clause-further
+returns-clause-further c = omega (arith, c.in_ok-callee.ensures.further)
+
+pub returns-clause-within : goal.returns-clause-within
+returns-clause-within c = omega (arith, c.in_ok-callee.ensures.within)
+
+pub returns-clause-node : goal.returns-clause-node
+returns-clause-node c = omega (arith, c.in_ok-callee.ensures.node)
+
+pub returns-clause-names : goal.returns-clause-names
+returns-clause-names c = omega (arith, c.in_ok-callee.ensures.names)

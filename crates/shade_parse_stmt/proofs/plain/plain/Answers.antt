@@ -1,4 +1,4 @@
-use Rattle.std.proofs.Common.{refl, ◌+◌, arith}
+use Rattle.std.proofs.Common.{refl, ◌+◌, arith, ap, ◌≡◌}
 use Rattle.std.proofs.lemmas.List.{length-map}
 use Rattle.shade_parse_stmt.specs.Follows.{Anything}
 use Rattle.shade_parse_stmt.specs.StatementParts.{ValueEnd, UntilValue, SimpleEnd, Plain}
@@ -31,3 +31,35 @@ returns-in-Some-key_at-2-clause-tree c = assert_tree (lexemes c.args.pieces.now)
 
 pub returns-clause-tree : goal.returns-clause-tree
 returns-clause-tree c = answers c.simple_end.result _ _ _ _ (λ s x. plain_simple_tree (lexemes c.args.pieces.now) c.args.from (omega (arith, length-map c.args.pieces.now lexeme, c.requires.within)) (λ p is. c.in_default.ensures.value p is) c.in_default-jump_at.ensures.value (λ p is. c.in_default-key_at.ensures.value p is) (λ p is. c.in_default-key_at-2.ensures.value p is) _ c.args.node s x) (λ f x. fault_by Plain SimpleEnd Anything Anything (lexemes c.args.pieces.now) c.args.names.now c.args.names.now _ c.args.from c.args.from f (omega arith) (λ to y. plain_simple_fails (lexemes c.args.pieces.now) c.args.from (omega (arith, length-map c.args.pieces.now lexeme, c.requires.within)) (λ p is. c.in_default.ensures.value p is) c.in_default-jump_at.ensures.value (λ p is. c.in_default-key_at.ensures.value p is) (λ p is. c.in_default-key_at-2.ensures.value p is) to y) x) c.simple_end.ensures.tree
+
+pub returns-in-Some-key_at-clause-further : goal.returns-in-Some-key_at-clause-further
+returns-in-Some-key_at-clause-further c = let end : c.statement_of-in-Some-key_at.result.end ≡ c.in_ok-value.value.end = ap (λ y. y.end) c.statement_of-in-Some-key_at.ensures in let node : c.statement_of-in-Some-key_at.result.node ≡ c.in_ok-value.value.node + 1 = ap (λ y. y.node) c.statement_of-in-Some-key_at.ensures in
+    omega (arith, c.in_ok-value.ensures.further)
+
+pub returns-in-Some-key_at-clause-within : goal.returns-in-Some-key_at-clause-within
+returns-in-Some-key_at-clause-within c = let end : c.statement_of-in-Some-key_at.result.end ≡ c.in_ok-value.value.end = ap (λ y. y.end) c.statement_of-in-Some-key_at.ensures in let node : c.statement_of-in-Some-key_at.result.node ≡ c.in_ok-value.value.node + 1 = ap (λ y. y.node) c.statement_of-in-Some-key_at.ensures in
+    omega (arith, c.in_ok-value.ensures.within)
+
+pub returns-in-Some-key_at-clause-node : goal.returns-in-Some-key_at-clause-node
+returns-in-Some-key_at-clause-node c = let end : c.statement_of-in-Some-key_at.result.end ≡ c.in_ok-value.value.end = ap (λ y. y.end) c.statement_of-in-Some-key_at.ensures in let node : c.statement_of-in-Some-key_at.result.node ≡ c.in_ok-value.value.node + 1 = ap (λ y. y.node) c.statement_of-in-Some-key_at.ensures in
+    omega (arith, c.in_ok-value.ensures.node)
+
+pub returns-in-Some-key_at-clause-names : goal.returns-in-Some-key_at-clause-names
+returns-in-Some-key_at-clause-names c = let end : c.statement_of-in-Some-key_at.result.end ≡ c.in_ok-value.value.end = ap (λ y. y.end) c.statement_of-in-Some-key_at.ensures in let node : c.statement_of-in-Some-key_at.result.node ≡ c.in_ok-value.value.node + 1 = ap (λ y. y.node) c.statement_of-in-Some-key_at.ensures in
+    omega (arith, c.in_ok-value.ensures.names)
+
+pub returns-in-Some-key_at-2-clause-further : goal.returns-in-Some-key_at-2-clause-further
+returns-in-Some-key_at-2-clause-further c = let end : c.statement_of-in-Some-key_at-2.result.end ≡ c.in_ok-condition.condition.end = ap (λ y. y.end) c.statement_of-in-Some-key_at-2.ensures in let node : c.statement_of-in-Some-key_at-2.result.node ≡ c.in_ok-condition.condition.node + 1 = ap (λ y. y.node) c.statement_of-in-Some-key_at-2.ensures in
+    omega (arith, c.in_ok-condition.ensures.further)
+
+pub returns-in-Some-key_at-2-clause-within : goal.returns-in-Some-key_at-2-clause-within
+returns-in-Some-key_at-2-clause-within c = let end : c.statement_of-in-Some-key_at-2.result.end ≡ c.in_ok-condition.condition.end = ap (λ y. y.end) c.statement_of-in-Some-key_at-2.ensures in let node : c.statement_of-in-Some-key_at-2.result.node ≡ c.in_ok-condition.condition.node + 1 = ap (λ y. y.node) c.statement_of-in-Some-key_at-2.ensures in
+    omega (arith, c.in_ok-condition.ensures.within)
+
+pub returns-in-Some-key_at-2-clause-node : goal.returns-in-Some-key_at-2-clause-node
+returns-in-Some-key_at-2-clause-node c = let end : c.statement_of-in-Some-key_at-2.result.end ≡ c.in_ok-condition.condition.end = ap (λ y. y.end) c.statement_of-in-Some-key_at-2.ensures in let node : c.statement_of-in-Some-key_at-2.result.node ≡ c.in_ok-condition.condition.node + 1 = ap (λ y. y.node) c.statement_of-in-Some-key_at-2.ensures in
+    omega (arith, c.in_ok-condition.ensures.node)
+
+pub returns-in-Some-key_at-2-clause-names : goal.returns-in-Some-key_at-2-clause-names
+returns-in-Some-key_at-2-clause-names c = let end : c.statement_of-in-Some-key_at-2.result.end ≡ c.in_ok-condition.condition.end = ap (λ y. y.end) c.statement_of-in-Some-key_at-2.ensures in let node : c.statement_of-in-Some-key_at-2.result.node ≡ c.in_ok-condition.condition.node + 1 = ap (λ y. y.node) c.statement_of-in-Some-key_at-2.ensures in
+    omega (arith, c.in_ok-condition.ensures.names)

@@ -16,3 +16,15 @@ returns-in_err-value-clause-tree c = errs _ c.in_err-value.field-0.0 _ _ c.from_
 
 pub returns-clause-tree : goal.returns-clause-tree
 returns-clause-tree c = value_tree (lexemes c.args.pieces.now) c.args.from (omega (arith, length-map c.args.pieces.now lexeme, c.requires.within)) (λ p is. c.in_default.ensures.value p is) _ c.args.node c.in_ok-value.value c.in_ok-value.ensures.tree
+
+pub returns-clause-further : goal.returns-clause-further
+returns-clause-further c = omega (arith, c.in_ok-value.ensures.further)
+
+pub returns-clause-within : goal.returns-clause-within
+returns-clause-within c = omega (arith, c.in_ok-value.ensures.within)
+
+pub returns-clause-node : goal.returns-clause-node
+returns-clause-node c = omega (arith, c.in_ok-value.ensures.node)
+
+pub returns-clause-names : goal.returns-clause-names
+returns-clause-names c = omega (arith, c.in_ok-value.ensures.names)

@@ -20,3 +20,15 @@ returns-in_err-whole-clause-tree c = errs _ c.in_err-whole.field-0.0 _ _ c.from_
 
 pub returns-clause-tree : goal.returns-clause-tree
 returns-clause-tree c = some_simple_tree (lexemes c.args.pieces.now) c.args.from (omega (arith, length-map c.args.pieces.now lexeme, c.requires.within)) (λ p is. isnt c.if-is_mark.ensures.value (p, is)) _ c.args.node c.in_ok-part.part c.in_ok-part.ensures.tree c.in_ok-whole.ensures.mark.0 c.in_ok-whole.ensures.mark.1 c.in_ok-whole.whole c.in_ok-whole.ensures.fault c.in_ok-whole.ensures.end c.in_ok-whole.ensures.node
+
+pub returns-clause-further : goal.returns-clause-further
+returns-clause-further c = omega (arith, c.in_ok-part.ensures.further, c.in_ok-whole.ensures.end, c.in_ok-whole.ensures.node, c.in_ok-whole.ensures.within)
+
+pub returns-clause-within : goal.returns-clause-within
+returns-clause-within c = omega (arith, c.in_ok-whole.ensures.end, c.in_ok-whole.ensures.node, c.in_ok-whole.ensures.within)
+
+pub returns-clause-node : goal.returns-clause-node
+returns-clause-node c = omega (arith, c.in_ok-part.ensures.node, c.in_ok-whole.ensures.end, c.in_ok-whole.ensures.node, c.in_ok-whole.ensures.within)
+
+pub returns-clause-names : goal.returns-clause-names
+returns-clause-names c = omega (arith, c.in_ok-part.ensures.names, c.in_ok-whole.ensures.end, c.in_ok-whole.ensures.node, c.in_ok-whole.ensures.within)
