@@ -14,8 +14,9 @@ use Rattle.shade_core.specs.declared.module.CoreParam.TheVariants.{Plain, Pointe
 use Rattle.shade_core.specs.declared.module.Root.{Root}
 use Rattle.shade_core.specs.declared.module.CoreFunction.{CoreFunction}
 use Rattle.shade_core.specs.declared.module.CoreModule.{CoreModule}
-use Rattle.shade_core.specs.Code.{Jump, Break, Continue, Return, Code, done, plain, jump, call, branch, switch, loop, no_part, part, code_of}
-use Rattle.shade_core.specs.Standing.{Case, Head, does, jumps, calls, branches, switches, loops, Standing, statements, are_numbered}
+use Rattle.shade_core.specs.declared.statement.CoreStatement.{CoreStatement}
+use Rattle.shade_core.specs.Code.{Return, code_of}
+use Rattle.shade_core.specs.Standing.{Case, Head, jumps, switches, head_of, statements, are_numbered}
 use Rattle.shade_core.specs.Types.{is_data, is_buffer, type_at, spelled, NamesHeld, IsTable}
 use Rattle.shade_core.specs.Roots.{access_fits, IsRoot}
 use Rattle.shade_core.specs.Views.{ValueTypes}
@@ -83,19 +84,18 @@ abbrev pub SwitchIs : Head → Type 0
 SwitchIs (switches selector cases) = IsSwitch cases
 SwitchIs _ = Unit {0}
 
+abbrev pub is_return : Head → Bool
+is_return (jumps (Return value)) = true
+is_return _ = false
+
 -- the last statement of a list is a Return
-abbrev pub ends_with_return : Code → Bool
-ends_with_return (plain n act rest) = ends_with_return rest
-ends_with_return (jump n (Return value) done) = true
-ends_with_return (jump n act rest) = ends_with_return rest
-ends_with_return (call n g args rest) = ends_with_return rest
-ends_with_return (branch n cond first second rest) = ends_with_return rest
-ends_with_return (switch n selector parts rest) = ends_with_return rest
-ends_with_return (loop n body continuing leave rest) = ends_with_return rest
-ends_with_return _ = false
+abbrev pub ends_with_return : List CoreStatement → Bool
+ends_with_return [] = false
+ends_with_return (s ∷ []) = is_return (head_of s.act)
+ends_with_return (s ∷ rest) = ends_with_return rest
 
 -- a function without a result ends with a Return
-abbrev pub Ends : Option TypeId → Code → Type 0
+abbrev pub Ends : Option TypeId → List CoreStatement → Type 0
 Ends None body = IsTrue (ends_with_return body)
 Ends (Some id) body = Unit {0}
 
@@ -104,7 +104,7 @@ pub record IsBody (shader : CoreModule) (f : CoreFunction) (values : ValueTypes)
   pub scoped : IsTrue (in_scope [] (code_of f.body))
   pub typed : IsTyped shader f (statements (code_of f.body)) values
   pub switches : All (λ s. SwitchIs s.head) (statements (code_of f.body))
-  pub ends : Ends f.result (code_of f.body)
+  pub ends : Ends f.result f.body
 
 -- ---- a module
 
