@@ -10,3 +10,4 @@ pub mod Scopes
 pub mod Chains
 pub mod Limits
 pub mod HasShape
+pub mod Numbers
