@@ -1,5 +1,5 @@
 -- Why an answer has its status: each status has its cause.
-use Rattle.std.proofs.Common.{◌≡◌, ◌≢◌, ◌<◌, ◌⊎◌, inl, inr, ◌∙◌, refl, sym, subst, ap, ℕ, ◌+◌, ◌≤◌, ◌==◌, if◌then◌else◌, Bool, true, false, cond, List, [], ◌∷◌, ◌++◌, length, Option, None, Some, codes, arith}
+use Rattle.std.proofs.Common.{◌≡◌, ◌≢◌, ◌<◌, ◌∙◌, refl, sym, subst, ap, ℕ, ◌+◌, ◌≤◌, ◌==◌, if◌then◌else◌, Bool, true, false, cond, List, [], ◌∷◌, ◌++◌, length, Option, None, Some, codes, arith}
 use Rattle.std.specs.Prelude.{count_by}
 use Rattle.std.specs.List.{flat_map}
 use Rattle.std.specs.Fmt.{decimal}
@@ -12,9 +12,6 @@ use Rattle.shade_base.specs.declared.severity.Severity.TheVariants.{Error, Warni
 use Rattle.shade_base.specs.Shelf.{faults_of}
 use Rattle.shade_base.proofs.FaultLemmas.{faults_of-push}
 use Rattle.shade_core.specs.declared.module.CoreModule.{CoreModule}
-use Rattle.shade_verdict.specs.declared.violation.Violation.{Violation}
-use Rattle.shade_verdict.specs.Violations.{AreViolations}
-use Rattle.shade_first.specs.FirstForm.{StandsFor}
 use Rattle.shade_report.specs.declared.refusal.Refusal.{Refusal}
 use Rattle.shade_report.specs.declared.refusal.Refusal.TheVariants.{TooLong, Utf8, Lex, Unexpected, TooDeep, NotYet}
 use Rattle.shade_report.specs.CheckReport.{count_of, counts_text, violation_text}
@@ -23,9 +20,9 @@ use Rattle.shade_report.specs.RunReport.{run_line, lane_lines, released_line, re
 use Rattle.shade_group.specs.declared.event.RunEnd.{RunEnd}
 use Rattle.shade_group.specs.declared.event.RunEnd.TheVariants as run_end
 use Rattle.shade_group.specs.Group.{Machine, run_end_of, end_by, all_ended}
-use Rattle.shade_top.specs.Answer.{Answer, IsAnswer, no_form, answered, IsAnswerTo, check_unread, checked, run_unread, stopped, job_unread, run_, IsChecked, refused, judged, IsRan, no_job, job, NoJob, Runs, fault_read, lanes_of, ran, outcome, run_status}
+use Rattle.shade_top.specs.Answer.{Answer, IsAnswer, no_form, answered, IsAnswerTo, check_unread, checked, run_unread, stopped, job_unread, run_, IsChecked, refused, judged, IsRan, no_job, job, NoJob, Runs, fault_read, ran, outcome, run_status}
 use Rattle.shade_top.specs.Causes.{Rejects, Refuses, Finishes, Diverges, Spends, ShaderRead, JobRead, unread_file, Succeeds}
-use Rattle.shade_top.specs.Request.{Request, Check, Run, File, files, requested, request_of, files_of, shader_file, job_file}
+use Rattle.shade_top.specs.Request.{Request, File, files, shader_file, job_file}
 use Rattle.shade_top.specs.Serves.{AreReads}
 
 pub clash : {A : Type 0} (status one other : ℕ) → status ≡ one → status ≡ other → one ≢ other → A
@@ -190,14 +187,14 @@ not_three (run_ runs r) e = ran_other 3 (λ z. cc) (λ z. cc) (λ z. cc) (λ z. 
 
 -- ---- causes in the shader
 
-module _ (Holds : List ℕ → Type 0) (wanted : ℕ) (not_five : wanted ≢ 5) (other : {shader : CoreModule} {bytes : List ℕ} {answer : Answer} → IsRan shader bytes answer → answer.status ≡ wanted → ⊥) (Told : List ℕ → Type 0) (holds : (bytes : List ℕ) (answer : Answer) → IsChecked bytes answer → answer.status ≡ wanted → Told answer.text → Holds bytes) where
+module _ (Holds : List ℕ → Type 0) (wanted : ℕ) (not_five : wanted ≢ 5) (other : (shader : CoreModule) (bytes : List ℕ) (answer : Answer) → IsRan shader bytes answer → answer.status ≡ wanted → ⊥) (Told : List ℕ → Type 0) (holds : (bytes : List ℕ) (answer : Answer) → IsChecked bytes answer → answer.status ≡ wanted → Told answer.text → Holds bytes) where
   shader_cause : {request : Request} {reads : List (Option (List ℕ))} {answer : Answer} → IsAnswerTo request reads answer → answer.status ≡ wanted → Told answer.text → ShaderRead Holds reads
   shader_cause check_unread e told = absurd (not_five (sym e))
   shader_cause (checked {bytes = bytes} {answer = answer} c) e told = holds bytes answer c e told
   shader_cause run_unread e told = absurd (not_five (sym e))
   shader_cause (stopped {bytes = bytes} {answer = answer} c not_zero) e told = holds bytes answer c e told
   shader_cause (job_unread runs) e told = absurd (not_five (sym e))
-  shader_cause (run_ runs r) e told = absurd (other r e)
+  shader_cause (run_ {steps = steps} {shader = shader} {answer = answer} runs r) e told = absurd (other shader steps answer r e)
 
 -- of a rejected shader the text that was printed does not matter
 abbrev Anything : List ℕ → Type 0
@@ -208,7 +205,7 @@ one_holds bytes answer (refused why h) e told = absurd (cc)
 one_holds bytes answer (judged {checked = shader} {violations = vs} parses stands are) e told = record { parses = parses; shader = shader; stands = stands; violations = vs; are = are; errors = some_errors (count_of Error vs) e }
 
 pub one_cause : {request : Request} {reads : List (Option (List ℕ))} {answer : Answer} → IsAnswerTo request reads answer → answer.status ≡ 1 → ShaderRead Rejects reads
-one_cause a e = shader_cause Rejects 1 (λ z. cc) (ran_other 1 (λ z. cc) (λ z. cc) (λ z. cc) (λ z. cc)) Anything one_holds a e tt
+one_cause a e = shader_cause Rejects 1 (λ z. cc) (λ shader bytes answer r. ran_other 1 (λ z. cc) (λ z. cc) (λ z. cc) (λ z. cc) r) Anything one_holds a e tt
 
 -- what a refusal tells is its line
 pub two_holds : (Told : List ℕ → Type 0) (Holds : List ℕ → Type 0) → ((bytes : List ℕ) (r : Refuses bytes) → Told (refusal_line r.0) → Holds bytes) → (bytes : List ℕ) (answer : Answer) → IsChecked bytes answer → answer.status ≡ 2 → Told answer.text → Holds bytes
@@ -216,7 +213,7 @@ two_holds Told Holds turn bytes answer (refused why is) e told = turn bytes (why
 two_holds Told Holds turn bytes answer (judged {violations = vs} parses stands are) e told = absurd (verdict_early (count_of Error vs == 0) 2 (omega arith) e)
 
 pub two_cause : (Told : List ℕ → Type 0) (Holds : List ℕ → Type 0) → ((bytes : List ℕ) (r : Refuses bytes) → Told (refusal_line r.0) → Holds bytes) → {request : Request} {reads : List (Option (List ℕ))} {answer : Answer} → IsAnswerTo request reads answer → answer.status ≡ 2 → Told answer.text → ShaderRead Holds reads
-two_cause Told Holds turn a e told = shader_cause Holds 2 (λ z. cc) (ran_other 2 (λ z. cc) (λ z. cc) (λ z. cc) (λ z. cc)) Told (two_holds Told Holds turn) a e told
+two_cause Told Holds turn a e told = shader_cause Holds 2 (λ z. cc) (λ shader bytes answer r. ran_other 2 (λ z. cc) (λ z. cc) (λ z. cc) (λ z. cc) r) Told (two_holds Told Holds turn) a e told
 
 pub refused_cause : {request : Request} {reads : List (Option (List ℕ))} {answer : Answer} → IsAnswerTo request reads answer → answer.status ≡ 2 → ShaderRead Refuses reads
 refused_cause a e = two_cause Anything Refuses (λ bytes r told. r) a e tt
@@ -312,7 +309,7 @@ unread_rose texts (f ∷ fs) [] before now file given is = absurd (cc)
 unread_rose texts [] (read ∷ reads) before now file given is = absurd given
 unread_rose texts (f ∷ fs) (None ∷ reads) before now file given is =
     subst (λ (g : File). faults_of g.name before < faults_of g.name now) (same_file f file is) (
-      let one : faults_of f.name (before ++ f.name ∷ []) ≡ faults_of f.name before + 1 = faults_of-push f.name before in
-      let more : faults_of f.name (before ++ f.name ∷ []) ≤ faults_of f.name now = reads_grow texts fs reads (before ++ f.name ∷ []) now f.name given in
-      omega arith)
+    let one : faults_of f.name (before ++ f.name ∷ []) ≡ faults_of f.name before + 1 = faults_of-push f.name before in
+    let more : faults_of f.name (before ++ f.name ∷ []) ≤ faults_of f.name now = reads_grow texts fs reads (before ++ f.name ∷ []) now f.name given in
+    omega arith)
 unread_rose texts (f ∷ fs) (Some bytes ∷ reads) before now file given is = unread_rose texts fs reads before now file given.1 is

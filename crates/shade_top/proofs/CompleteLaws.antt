@@ -1,13 +1,13 @@
 -- Words that fit a form are answered.
-use Rattle.std.proofs.Common.{◌≡◌, ◌<◌, ◌⊎◌, inl, inr, ◌∙◌, refl, sym, subst, ap, ℕ, ◌≤◌, List, [], ◌∷◌, Option, None, Some, arith}
-use Rattle.shade_base.specs.Counter.{one_more, Rose}
+use Rattle.std.proofs.Common.{◌≡◌, ◌<◌, ◌⊎◌, inl, inr, ◌∙◌, sym, ap, ℕ, List, [], ◌∷◌, Option, None, Some, arith}
+use Rattle.shade_base.specs.Counter.{Rose}
 use Rattle.shade_base.specs.Shelf.{faults_of}
 use Rattle.shade_top.specs.Answer.{NoJob}
 use Rattle.shade_top.specs.Causes.{HasCause, JobRead, Refuses, RefusesAloud, ShaderRead, Unread}
 use Rattle.shade_top.specs.Changes.{ShelfChange, SinkChange}
 use Rattle.shade_top.specs.Laws.{Completeness}
 use Rattle.shade_top.specs.Request.{Request, request_of}
-use Rattle.shade_top.specs.Serves.{Ends, written, no_memory, IsWritten, whole, cut, Serves}
+use Rattle.shade_top.specs.Serves.{Ends, written, no_memory, whole, cut}
 use Rattle.shade_top.proofs.CauseLaws.{Known, zero_, one_, two_, three_, four_, five_, eight_, nine_, words_known}
 
 -- a refusal that was told is one

@@ -1,16 +1,13 @@
 -- Each status of an answer comes exactly where its cause holds.
-use Rattle.std.proofs.Common.{◌≡◌, ◌≢◌, ◌∙◌, refl, sym, subst, ap, ℕ, ◌==◌, if◌then◌else◌, List, [], ◌∷◌, Option, None, Some}
+use Rattle.std.proofs.Common.{◌≡◌, ◌≢◌, ◌∙◌, refl, sym, subst, ap, ℕ, List, [], Option, None, Some}
 use Rattle.shade_base.specs.declared.severity.Severity.TheVariants.{Error}
 use Rattle.shade_core.specs.declared.module.CoreModule.{CoreModule}
 use Rattle.shade_report.specs.CheckReport.{count_of}
-use Rattle.shade_group.specs.declared.event.RunEnd.{RunEnd}
-use Rattle.shade_group.specs.declared.event.RunEnd.TheVariants as run_end
-use Rattle.shade_group.specs.Group.{run_end_of, all_ended}
-use Rattle.shade_job.specs.Steps.{States}
-use Rattle.shade_top.specs.Answer.{Answer, IsAnswer, no_form, answered, IsAnswerTo, check_unread, checked, run_unread, stopped, job_unread, run_, IsChecked, refused, judged, IsRan, no_job, job, NoJob, Runs, bad_words, lanes_of, ran, outcome, run_status, verdict, refusal}
+use Rattle.shade_group.specs.Group.{all_ended}
+use Rattle.shade_top.specs.Answer.{Answer, IsAnswer, no_form, answered, IsAnswerTo, check_unread, checked, run_unread, stopped, job_unread, run_, IsChecked, refused, judged, IsRan, no_job, job, NoJob, Runs, bad_words, ran, outcome, run_status, verdict, refusal}
 use Rattle.shade_top.specs.Causes.{Rejects, Refuses, Finishes, Diverges, Spends, ShaderRead, JobRead, unread_file, Succeeds, IsExact}
-use Rattle.shade_top.specs.Laws.{OneAnswer, ExactStatuses}
-use Rattle.shade_top.specs.Request.{Request, Check, Run, File, files, requested, request_of, files_of}
+use Rattle.shade_top.specs.Laws.{ExactStatuses}
+use Rattle.shade_top.specs.Request.{Request, File, files, requested, request_of, files_of}
 use Rattle.shade_top.proofs.CauseLaws.{not_three, errors_status, none_status, eight_diverged, one_cause, refused_cause, four_cause, five_cause, eight_cause, nine_cause, zero_cause, Fault}
 
 none_some : {request : Request} (asked : Option Request) → asked ≡ None → asked ≡ Some request → ⊥
@@ -18,8 +15,8 @@ none_some asked none some = let clash : None ≡ Some _ = sym none ∙ some in c
 
 module _ (checks : (bytes : List ℕ) (a b : Answer) → IsChecked bytes a → IsChecked bytes b → a ≡ b) (one : (request : Request) (reads : List (Option (List ℕ))) (a b : Answer) → IsAnswerTo request reads a → IsAnswerTo request reads b → a ≡ b) where
   -- an answer whose status is known gives that of every answer
-  as : {request : Request} {reads : List (Option (List ℕ))} {answer : Answer} (other : Answer) (wanted : ℕ) → IsAnswerTo request reads answer → IsAnswerTo request reads other → other.status ≡ wanted → answer.status ≡ wanted
-  as {request = request} {reads = reads} {answer = answer} other wanted a b is = ap (λ (x : Answer). x.status) (one request reads answer other a b) ∙ is
+  same_as : {request : Request} {reads : List (Option (List ℕ))} {answer : Answer} (other : Answer) (wanted : ℕ) → IsAnswerTo request reads answer → IsAnswerTo request reads other → other.status ≡ wanted → answer.status ≡ wanted
+  same_as {request = request} {reads = reads} {answer = answer} other wanted a b is = ap (λ (x : Answer). x.status) (one request reads answer other a b) ∙ is
 
   -- the verdict on a shader that runs, and on one that is rejected
   runs_checked : (bytes : List ℕ) (shader : CoreModule) (r : Runs bytes shader) → IsChecked bytes (verdict shader.functions r.violations)
@@ -43,10 +40,10 @@ module _ (checks : (bytes : List ℕ) (a b : Answer) → IsChecked bytes a → I
 
   one_back : {request : Request} {reads : List (Option (List ℕ))} {answer : Answer} → IsAnswerTo request reads answer → ShaderRead Rejects reads → answer.status ≡ 1
   one_back check_unread h = absurd h
-  one_back (checked {bytes = bytes} c) h = as (verdict h.shader.functions h.violations) 1 (checked c) (checked (rejects_checked bytes h)) (rejects_one bytes h)
+  one_back (checked {file = file} {bytes = bytes} c) h = same_as (verdict h.shader.functions h.violations) 1 (checked {file = file} c) (checked (rejects_checked bytes h)) (rejects_one bytes h)
   one_back run_unread h = absurd h
-  one_back (stopped {bytes = bytes} c other) h =
-      as (verdict h.shader.functions h.violations) 1 (stopped c other) (stopped (rejects_checked bytes h) (not_zero _ 1 (rejects_one bytes h) (λ e. cc))) (rejects_one bytes h)
+  one_back (stopped {file = file} {job = name} {bytes = bytes} c other) h =
+      same_as (verdict h.shader.functions h.violations) 1 (stopped {file = file} {job = name} c other) (stopped (rejects_checked bytes h) (not_zero _ 1 (rejects_one bytes h) (λ e. cc))) (rejects_one bytes h)
   one_back (job_unread {bytes = bytes} {shader = shader} r) h = absurd (runs_not bytes shader _ r (rejects_checked bytes h) (not_zero _ 1 (rejects_one bytes h) (λ e. cc)))
   one_back (run_ {bytes = bytes} {shader = shader} r x) h = absurd (runs_not bytes shader _ r (rejects_checked bytes h) (not_zero _ 1 (rejects_one bytes h) (λ e. cc)))
 
@@ -55,9 +52,9 @@ module _ (checks : (bytes : List ℕ) (a b : Answer) → IsChecked bytes a → I
 
   two_back : {request : Request} {reads : List (Option (List ℕ))} {answer : Answer} → IsAnswerTo request reads answer → ShaderRead Refuses reads → answer.status ≡ 2
   two_back check_unread h = absurd h
-  two_back (checked c) h = as (refusal h.0) 2 (checked c) (checked (refused h.0 h.1)) refl
+  two_back (checked {file = file} c) h = same_as (refusal h.0) 2 (checked {file = file} c) (checked (refused h.0 h.1)) refl
   two_back run_unread h = absurd h
-  two_back (stopped c other) h = as (refusal h.0) 2 (stopped c other) (stopped (refused h.0 h.1) two_zero) refl
+  two_back (stopped {file = file} {job = name} c other) h = same_as (refusal h.0) 2 (stopped {file = file} {job = name} c other) (stopped (refused h.0 h.1) two_zero) refl
   two_back (job_unread {bytes = bytes} {shader = shader} r) h = absurd (runs_not bytes shader (refusal h.0) r (refused h.0 h.1) two_zero)
   two_back (run_ {bytes = bytes} {shader = shader} r x) h = absurd (runs_not bytes shader (refusal h.0) r (refused h.0 h.1) two_zero)
 
@@ -69,9 +66,9 @@ module _ (checks : (bytes : List ℕ) (a b : Answer) → IsChecked bytes a → I
     job_back run_unread h = absurd h
     job_back (stopped c other) h = absurd h
     job_back (job_unread r) h = absurd h
-    job_back (run_ {steps = steps} r x) h =
+    job_back (run_ {file = file} {job = name} {steps = steps} r x) h =
         let found : (a : Answer) × IsRan h.0 steps a × (a.status ≡ wanted) = decides h.0 steps h.2 in
-        as found.0 wanted (run_ r x) (run_ h.1 found.1) found.2
+        same_as found.0 wanted (run_ {file = file} {job = name} r x) (run_ h.1 found.1) found.2
 
   four_decides : (shader : CoreModule) (bytes : List ℕ) → NoJob shader bytes → (a : Answer) × IsRan shader bytes a × (a.status ≡ 4)
   four_decides shader bytes none = (_, no_job none, refl)
@@ -87,11 +84,11 @@ module _ (checks : (bytes : List ℕ) (a b : Answer) → IsChecked bytes a → I
 
   zero_back : {request : Request} {reads : List (Option (List ℕ))} {answer : Answer} → IsAnswerTo request reads answer → Succeeds (Some request) reads → answer.status ≡ 0
   zero_back check_unread h = absurd h
-  zero_back (checked {bytes = bytes} c) h = as (verdict h.0.functions h.1.violations) 0 (checked c) (checked (runs_checked bytes h.0 h.1)) (runs_zero bytes h.0 h.1)
+  zero_back (checked {file = file} {bytes = bytes} c) h = same_as (verdict h.0.functions h.1.violations) 0 (checked {file = file} c) (checked (runs_checked bytes h.0 h.1)) (runs_zero bytes h.0 h.1)
   zero_back run_unread h = absurd h
   zero_back (stopped c other) h = absurd h
   zero_back (job_unread r) h = absurd h
-  zero_back (run_ r x) h = job_back Finishes 0 ends_decides (run_ r x) h
+  zero_back (run_ {file = file} {job = name} r x) h = job_back Finishes 0 ends_decides (run_ {file = file} {job = name} r x) h
 
   five_back : {request : Request} {reads : List (Option (List ℕ))} {answer : Answer} → IsAnswerTo request reads answer → unread_file (files request) reads ≢ None → answer.status ≡ 5
   five_back check_unread h = refl

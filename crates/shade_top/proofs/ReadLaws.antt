@@ -1,6 +1,7 @@
 -- What a request led to: the files that were read, and the answer to what they gave.
-use Rattle.std.proofs.Common.{◌≡◌, ◌≢◌, refl, sym, ◌∙◌, ap, subst, ℕ, ◌≤◌, ◌==◌, if◌then◌else◌, Bool, true, false, List, [], ◌∷◌, Option, None, Some, arith}
-use Rattle.std.specs.Prelude.{IfOk, Result, Ok, Err}
+use Rattle.std.proofs.Common.{◌≡◌, ◌≢◌, refl, sym, subst, ℕ, zero, suc, ◌≤◌, ◌==◌, if◌then◌else◌, Bool, true, false, List, [], ◌∷◌, Option, None, Some, Vec, Global, arith}
+use Rattle.std.specs.Prelude.{IfOk, IsErr, Result, Ok, Err}
+use Rattle.std.specs.Option.{option_map}
 use Rattle.std.proofs.lemmas.Bool.Decides.{nat_tests}
 use Rattle.shade_base.specs.declared.severity.Severity.TheVariants.{Error}
 use Rattle.shade_core.specs.declared.module.CoreModule.{CoreModule}
@@ -9,7 +10,7 @@ use Rattle.shade_report.specs.declared.refusal.Refusal.{Refusal}
 use Rattle.shade_report.specs.CheckReport.{count_of}
 use Rattle.shade_verdict.specs.declared.violation.Violation.{Violation}
 use Rattle.shade_verdict.specs.Violations.{AreViolations}
-use Rattle.shade_top.specs.Answer.{Answer, IsAnswerTo, check_unread, checked, run_unread, stopped, job_unread, run_, IsChecked, refused, judged, IsRan, MayRead, nothing_read, shader_read, job_read, Runs, fault_read, refusal, verdict, verdict_status}
+use Rattle.shade_top.specs.Answer.{Answer, IsAnswerTo, check_unread, checked, run_unread, stopped, job_unread, run_, IsChecked, refused, judged, IsRan, nothing_read, shader_read, job_read, Runs, fault_read, refusal, verdict}
 use Rattle.shade_top.specs.Changes.{ShelfChange}
 use Rattle.shade_top.specs.Report.{Outcome, RunOutcome, answer_of}
 use Rattle.shade_top.specs.Request.{Request, Check, Run, File, files, shader_file, job_file}
@@ -23,6 +24,11 @@ use Rattle.shade_top.specs.declared.report.Report.{Report}
 if_ok : {T E : Type 0} {P Q : T → Type 0} → ((t : T) → P t → Q t) → (result : Result T E) → IfOk result P → IfOk result Q
 if_ok turn (Ok t) p = turn t p
 if_ok turn (Err e) p = tt
+
+-- nothing is asked of a result that is an error
+of_error : {T E : Type 0} (P : T → Type 0) (result : Result T E) → IsErr result → IfOk result P
+of_error P (Ok t) is = absurd (cc)
+of_error P (Err e) is = tt
 
 -- ---- a text
 
@@ -38,8 +44,8 @@ verdict_checked result bytes shader vs parses stands are = if_ok (λ report told
 
 module _ {E : Type 0} (result : Result Report E) (shelf : ShelfChange) (bytes job : List ℕ) where
   -- nothing more was read, and memory ran out
-  pub run_stops : (e : E) → result ≡ Err e → shelf.failed' ≡ shelf.failed → RunOutcome shelf bytes job result
-  run_stops e is same = record { reads = []; given = same; may = λ file. shader_read; answered = λ file. subst (λ (r : Result Report E). IfOk r (λ report. IsAnswerTo (Run file job) (Some bytes ∷ []) (answer_of report))) (sym is) tt }
+  pub run_stops : IsErr result → shelf.failed' ≡ shelf.failed → RunOutcome shelf bytes job result
+  run_stops is same = record { reads = []; given = same; may = λ file. shader_read; answered = λ file. of_error _ result is }
 
   -- nothing more was read, and the answer is that of a check which does not accept the text
   stops_with : (wanted : Answer) → IsChecked bytes wanted → wanted.status ≢ 0 → shelf.failed' ≡ shelf.failed → IfOk result (λ report. answer_of report ≡ wanted) → RunOutcome shelf bytes job result
@@ -83,18 +89,19 @@ module _ {E : Type 0} (result : Result Report E) (shelf : ShelfChange) (bytes jo
 pub no_error_runs : (bytes : List ℕ) (shader : CoreModule) (vs : List Violation) → (1 ≤ count_of Error vs → ⊥) → Parses bytes → StandsFor bytes shader → AreViolations shader.functions vs → Runs bytes shader
 no_error_runs bytes shader vs none parses stands are = record { parses = parses; stands = stands; violations = vs; are = are; no_errors = zero_ (count_of Error vs) none } where
   zero_ : (count : ℕ) → (1 ≤ count → ⊥) → count ≡ 0
-  zero_ count no = omega (arith, no)
+  zero_ zero empty = refl
+  zero_ (suc count) empty = absurd (empty (omega arith))
 
 -- ---- a request
 
-module _ {E : Type 0} (result : Result Report E) (texts : Option (List ℕ → Option (List ℕ))) (before mid now : List (List ℕ)) (request : Request) (file : List ℕ) where
+module _ {E : Type 0} (result : Result Report E) (texts : Option (List ℕ → Option (List ℕ))) (before now : List (List ℕ)) (request : Request) (file : List ℕ) where
   -- the shelf of the call
   abbrev Shelf : ShelfChange
   Shelf = record { texts = texts; failed = before; failed' = now }
 
   -- memory ran out at the first read
-  pub nothing_outcome : (e : E) → result ≡ Err e → now ≡ before → Outcome Shelf request result
-  nothing_outcome e is same = record { reads = []; given = none_read (files request); may = nothing_read; answered = subst (λ (r : Result Report E). IfOk r (λ report. IsAnswerTo request [] (answer_of report))) (sym is) tt } where
+  pub nothing_outcome : IsErr result → now ≡ before → Outcome Shelf request result
+  nothing_outcome is same = record { reads = []; given = none_read (files request); may = nothing_read; answered = of_error _ result is } where
     none_read : (fs : List File) → AreReads texts fs [] before now
     none_read [] = same
     none_read (f ∷ fs) = same
@@ -111,10 +118,11 @@ module _ {E : Type 0} (result : Result Report E) (texts : Option (List ℕ → O
       subst (λ (q : Request). Outcome Shelf q result) (sym asked) (record { reads = None ∷ []; given = given; may = shader_read; answered = if_ok (λ report e. subst (IsAnswerTo (Run file job) (None ∷ [])) (sym e) run_unread) result told })
 
   -- the shader was read, and then what a run reads
-  pub run_outcome : (job bytes : List ℕ) → request ≡ Run file job → AreReads texts (shader_file file ∷ []) (Some bytes ∷ []) before mid → RunOutcome (record { texts = texts; failed = mid; failed' = now }) bytes job result → Outcome Shelf request result
-  run_outcome job bytes asked given o =
+  pub run_outcome : (mid : List (List ℕ)) (job bytes : List ℕ) → request ≡ Run file job → AreReads texts (shader_file file ∷ []) (Some bytes ∷ []) before mid → RunOutcome (record { texts = texts; failed = mid; failed' = now }) bytes job result → Outcome Shelf request result
+  run_outcome mid job bytes asked given o =
       subst (λ (q : Request). Outcome Shelf q result) (sym asked) (record { reads = Some bytes ∷ o.reads; given = (given.0, subst (λ names. AreReads texts (job_file job ∷ []) o.reads names now) given.1 o.given); may = o.may file; answered = o.answered file })
 
 -- what a read gave, known
-pub given_as : (texts : Option (List ℕ → Option (List ℕ))) (file : File) (before now : List (List ℕ)) (read wanted : Option (List ℕ)) → read ≡ wanted → AreReads texts (file ∷ []) (read ∷ []) before now → AreReads texts (file ∷ []) (wanted ∷ []) before now
-given_as texts file before now read wanted is = subst (λ (r : Option (List ℕ)). AreReads texts (file ∷ []) (r ∷ []) before now) is
+pub read_as : (texts : Option (List ℕ → Option (List ℕ))) (file : File) (before now : List (List ℕ)) (read wanted : Option (Vec ℕ Global)) → read ≡ wanted
+    → AreReads texts (file ∷ []) (option_map (λ bytes. bytes.items) read ∷ []) before now → AreReads texts (file ∷ []) (option_map (λ bytes. bytes.items) wanted ∷ []) before now
+read_as texts file before now read wanted is = subst (λ (r : Option (Vec ℕ Global)). AreReads texts (file ∷ []) (option_map (λ bytes. bytes.items) r ∷ []) before now) is

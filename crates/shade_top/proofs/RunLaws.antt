@@ -1,20 +1,14 @@
 -- What the answer to a run of a text is made of.
-use Rattle.std.proofs.Common.{◌≡◌, refl, sym, ◌∙◌, ap, subst, ℕ, zero, suc, ◌<◌, ◌==◌, if◌then◌else◌, Bool, true, false, List, [], ◌∷◌, ◌++◌, length, replicate, slice_get, Option, None, Some, arith}
+use Rattle.std.proofs.Common.{◌≡◌, sym, ◌∙◌, ap, subst, ℕ, zero, suc, ◌<◌, List, [], ◌∷◌, length, slice_get, Some}
 use Rattle.std.specs.Prelude.{IfOk, Result, Ok, Err}
-use Rattle.std.proofs.lemmas.Bool.Decides.{nat_tests}
-use Rattle.shade_base.specs.declared.severity.Severity.TheVariants.{Error}
 use Rattle.shade_core.specs.declared.module.CoreModule.{CoreModule}
-use Rattle.shade_report.specs.CheckReport.{count_of}
 use Rattle.shade_first.specs.FirstForm.{StandsFor}
 use Rattle.shade_mem.specs.declared.inputs.Inputs.{Inputs}
 use Rattle.shade_group.specs.Group.{Machine, begin, run}
 use Rattle.shade_job.specs.Steps.{AllBelow, States}
-use Rattle.shade_top.specs.Answer.{Answer, IsChecked, judged, IsRan, no_job, job, inputs, lanes_of, outcome, fault_read, refused_job}
+use Rattle.shade_top.specs.Answer.{Answer, IsRan, no_job, job, inputs, lanes_of, outcome, refused_job}
 use Rattle.shade_sound.specs.Laws.{FirstFormRuns}
-use Rattle.shade_top.specs.Report.{IsReady, IsVerdict, IsJobAnswer, unread, read_job, AnswersJob, AnswersModule, accepted, AnswersText, module_}
-use Rattle.shade_top.specs.Request.{File, job_file}
-use Rattle.shade_top.specs.Serves.{IsReadOf, AreReadsOf}
-use Rattle.shade_top.specs.Text.{Parses}
+use Rattle.shade_top.specs.Report.{IsReady}
 
 -- each step of a job is the number of a lane
 below_at : (lanes : ℕ) (steps : List ℕ) (i n : ℕ) → AllBelow lanes steps → slice_get steps i ≡ Some n → n < lanes

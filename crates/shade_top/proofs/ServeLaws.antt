@@ -1,27 +1,24 @@
 -- What a call did, from the answer that it found.
-use Rattle.std.proofs.Common.{◌≡◌, ◌≢◌, ◌<◌, ◌⊎◌, inl, inr, ◌∙◌, refl, sym, subst, ap, ℕ, ◌+◌, ◌≤◌, ◌==◌, cond, List, [], ◌∷◌, length, take, Option, None, Some, arith}
-use Rattle.std.specs.Prelude.{IfOk, Result, Ok, Err}
+use Rattle.std.proofs.Common.{◌≡◌, inl, inr, ◌∙◌, refl, sym, subst, ap, ℕ, ◌+◌, ◌≤◌, ◌==◌, cond, List, [], ◌∷◌, length, Option, None, Some, arith}
+use Rattle.std.specs.Prelude.{IfOk, Result, Ok}
 use Rattle.std.proofs.lemmas.List.Sums.{sum_by-append}
 use Rattle.shade_base.specs.declared.severity.Severity.TheVariants.{Error}
-use Rattle.shade_base.specs.Counter.{one_more, Rose}
-use Rattle.shade_base.specs.Shelf.{faults_of}
+use Rattle.shade_base.specs.Counter.{one_more}
 use Rattle.shade_base.specs.Sink.{with_piece}
 use Rattle.shade_core.specs.declared.module.CoreModule.{CoreModule}
 use Rattle.shade_verdict.specs.declared.violation.Violation.{Violation}
 use Rattle.shade_graph.specs.Graph.{Among, here, later}
 use Rattle.shade_graph.specs.Order.{severity_rank}
 use Rattle.shade_report.specs.CheckReport.{count_of}
-use Rattle.shade_report.specs.Refusals.{refusal_line}
 use Rattle.shade_sound.specs.Laws.{NeverDiverges, CleanWithoutErrors, HasError}
-use Rattle.shade_top.specs.Answer.{Answer, IsAnswer, no_form, answered, IsAnswerTo, MayRead, NoJob, Runs, bad_words, fault_read, inputs, ran}
-use Rattle.shade_top.specs.Causes.{Diverges, HasCause, JobRead, Refuses, RefusesAloud, ShaderRead, Unread, unread_file}
+use Rattle.shade_top.specs.Answer.{Answer, IsAnswer, no_form, answered, IsAnswerTo, Runs, bad_words, inputs}
+use Rattle.shade_top.specs.Causes.{Diverges, HasCause, JobRead, RefusesAloud, Unread, unread_file}
 use Rattle.shade_top.specs.Changes.{ShelfChange, SinkChange}
-use Rattle.shade_top.specs.Laws.{Completeness}
 use Rattle.shade_top.specs.Report.{Outcome, answer_of}
 use Rattle.shade_top.specs.Request.{Request, File, requested, request_of, files, files_of}
 use Rattle.shade_top.specs.Serves.{AreReads, Ends, written, no_memory, IsWritten, whole, cut, Serves}
 use Rattle.shade_top.specs.declared.report.Report.{Report}
-use Rattle.shade_top.proofs.CauseLaws.{clash, Known, zero_, one_, two_, three_, four_, five_, eight_, nine_, words_known, not_six, not_three, one_cause, two_cause, four_cause, five_cause, eight_cause, nine_cause, Fault, unread_rose}
+use Rattle.shade_top.proofs.CauseLaws.{answer_fits, clash, Known, words_known, not_six, not_three, one_cause, two_cause, four_cause, five_cause, eight_cause, nine_cause, Fault, unread_rose}
 
 -- ---- no run diverges today
 
@@ -165,3 +162,9 @@ module _ (never : NeverDiverges) (clean : CleanWithoutErrors) where
       -- no memory
       pub memory_serves : status ≡ 7 → sink.taken' ≡ sink.taken → sink.faults' ≡ sink.faults → Serves words shelf sink status
       memory_serves seven told same = serves_by words o.reads shelf sink status given (no_memory asked o.may seven told same)
+
+-- an answer has a text
+pub answer_some : {E : Type 0} (shelf : ShelfChange) (request : Request) (result : Result Report E) → Outcome shelf request result → (report : Report) → result ≡ Ok report → 1 ≤ length (answer_of report).text
+answer_some {E = E} shelf request result o report is =
+    let a : IsAnswerTo request o.reads (answer_of report) = subst (λ (r : Result Report E). IfOk r (λ t. IsAnswerTo request o.reads (answer_of t))) is o.answered in
+    (answer_fits a).some

@@ -1,6 +1,5 @@
 -- What a call of the program's top call did: what it read, what it wrote, and why it ended as it did.
-use Rattle.std.specs.Prelude.{◌≡◌, ℕ, ◌≤◌, List, [], ◌∷◌, ◌++◌, length, map, take, Option, None, Some, IfSome}
-use Rattle.std.specs.String.{string_bytes}
+use Rattle.std.specs.Prelude.{◌≡◌, ℕ, ◌≤◌, List, [], ◌∷◌, ◌++◌, length, take, Option, None, Some, IfSome}
 use Rattle.shade_base.specs.Counter.{one_more}
 use Rattle.shade_base.specs.Shelf.{front_of}
 use Rattle.shade_base.specs.Sink.{with_piece}

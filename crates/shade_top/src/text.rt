@@ -1,6 +1,6 @@
 //! The text of a shader, layer by layer: its length, UTF-8, its tokens, its syntax and its form.
 
-ghost use Rattle.std.specs.Prelude.{◌≡◌, Ok, Err, IfOk, MatchOption};
+ghost use Rattle.std.specs.Prelude.{◌≡◌, Ok, IfOk, IsErr, MatchOption};
 ghost use Rattle.shade_top.specs.Report.{lex_refusal, syntax_refusal, IsReadingOf};
 ghost use Rattle.shade_top.specs.Text.{IsText, Parses};
 
@@ -74,7 +74,7 @@ fn read_form(alloc: Global, text: &[u8]) -> Result<Reading, AllocError>
 
 /// A refusal, or the want of memory that took its place.
 fn refused(refusal: Option<Refusal>) -> Result<Reading, AllocError>
-    ensures { MatchOption refusal (result ≡ Err AllocError) (λ why. result ≡ Ok (Reading.Refused why)) }
+    ensures { MatchOption refusal (IsErr result) (λ why. result ≡ Ok (Reading.Refused why)) }
 {
     match refusal {
         Some(refusal) => Ok(Reading::Refused(refusal)),
