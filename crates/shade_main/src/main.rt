@@ -12,13 +12,13 @@ use std::{env, io};
 fn words(rt: &(impl Env + AllocGlobal)) -> Result<Vec<String>, Status> {
     let args = match env::args(rt) {
         Ok(args) => args,
-        Err(error) if error.kind() == io::ErrorKind::OutOfMemory => return Err(Status(7)),
+        Err(error) if error.kind() == io::ErrorKind::OutOfMemory => return Err(Status::NO_MEMORY),
         Err(_) => return Ok(Vec::new(rt.alloc())),
     };
     let mut words = Vec::new(rt.alloc());
     for word in args.skip(1) {
         if words.push(word).is_err() {
-            return Err(Status(7));
+            return Err(Status::NO_MEMORY);
         }
     }
     Ok(words)
@@ -31,7 +31,7 @@ fn served(rt: &HostRuntime) -> Status {
         Err(status) => return status,
     };
     let Ok(files) = rt.clone() else {
-        return Status(7);
+        return Status::NO_MEMORY;
     };
     let mut shelf = FileShelf::new(rt.alloc(), files);
     let mut out = StdSink::new(rt.stdout());

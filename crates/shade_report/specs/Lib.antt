@@ -3,3 +3,4 @@ pub mod Labels
 pub mod CheckReport
 pub mod RunReport
 pub mod Frames
+pub mod Refusals

@@ -1,3 +1,6 @@
+mod CauseLaws
+mod CompleteLaws
+mod ExactLaws
 mod OneAnswer
 mod ReadLaws
 mod ReadingLaws

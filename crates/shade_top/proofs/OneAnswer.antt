@@ -14,7 +14,8 @@ use Rattle.shade_job.specs.Laws.{OneJob}
 use Rattle.shade_top.specs.Answer.{Answer, IsAnswer, no_form, answered, IsAnswerTo, check_unread, checked, run_unread, stopped, job_unread, run_, IsChecked, refused, judged, IsRan, no_job, job, NoJob, Runs, bad_words, fault_read, refusal, refused_job, verdict, inputs, lanes_of, ran, outcome}
 use Rattle.shade_top.specs.Request.{Request, Check, Run, request_of}
 use Rattle.shade_top.specs.Laws.{OneAnswer}
-use Rattle.shade_top.specs.Text.{Refusal, IsRefused, Parses}
+use Rattle.shade_report.specs.declared.refusal.Refusal.{Refusal}
+use Rattle.shade_top.specs.Text.{IsRefused, Parses}
 use Rattle.shade_lex.specs.Tokens.{IsReadOnce}
 use Rattle.shade_lex.specs.declared.token.Token.{Token}
 use Rattle.shade_lex.specs.Templates.{HaveOneReading}
@@ -133,6 +134,13 @@ module _ (modules : OneModule) (places : OnePlace) (both : NeverBoth) (verdicts 
   cases_one words reads a b (inr x) (inr y) =
       let same : y.0 ≡ x.0 = one_request (request_of words) y.0 x.0 y.1 x.1 in
       to_one x.0 reads a b x.2 (subst (λ (q : Request). ToCases q reads b) same y.2)
+
+  -- the answer to a text, and to a request
+  pub one_checked : (bytes : List ℕ) (a b : Answer) → IsChecked bytes a → IsChecked bytes b → a ≡ b
+  one_checked bytes a b x y = checked_one bytes a b (checked_cases x) (checked_cases y)
+
+  pub one_to : (request : Request) (reads : List (Option (List ℕ))) (a b : Answer) → IsAnswerTo request reads a → IsAnswerTo request reads b → a ≡ b
+  one_to request reads a b x y = to_one request reads a b (to_cases x) (to_cases y)
 
   pub one_answer : OneAnswer
   one_answer words reads a b x y = cases_one words reads a b (answer_cases x) (answer_cases y)

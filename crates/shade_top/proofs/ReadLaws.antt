@@ -1,85 +1,128 @@
--- What the answer to a request is made of.
-use Rattle.std.proofs.Common.{◌≡◌, sym, ◌∙◌, ap, subst, ℕ, ◌+◌, ◌≤◌, Bool, cond, List, [], ◌∷◌, ◌++◌, replicate, Option, None, Some, arith}
-use Rattle.std.specs.Prelude.{IfOk, Result, Ok, Err, count_by}
-use Rattle.std.specs.Str.{bytes_eq}
-use Rattle.std.proofs.lemmas.List.Sums.{sum_by-append}
-use Rattle.shade_base.specs.Shelf.{faults_of}
+-- What a request led to: the files that were read, and the answer to what they gave.
+use Rattle.std.proofs.Common.{◌≡◌, ◌≢◌, refl, sym, subst, ℕ, zero, suc, ◌≤◌, ◌==◌, if◌then◌else◌, Bool, true, false, List, [], ◌∷◌, Option, None, Some, Vec, Global, arith}
+use Rattle.std.specs.Prelude.{IfOk, IsErr, Result, Ok, Err}
+use Rattle.std.specs.Option.{option_map}
+use Rattle.std.proofs.lemmas.Bool.Decides.{nat_tests}
+use Rattle.shade_base.specs.declared.severity.Severity.TheVariants.{Error}
 use Rattle.shade_core.specs.declared.module.CoreModule.{CoreModule}
 use Rattle.shade_first.specs.FirstForm.{StandsFor}
-use Rattle.shade_top.specs.Answer.{Answer, IsAnswerTo, check_unread, checked, run_unread, stopped, job_unread, run_, IsChecked, refused, judged, Runs, fault_read}
-use Rattle.shade_top.specs.Report.{Answers, IsJobAnswer, unread, read_job, AnswersModule, rejected, accepted, AnswersText, refused_text, module_, IsRefusal}
+use Rattle.shade_report.specs.declared.refusal.Refusal.{Refusal}
+use Rattle.shade_report.specs.CheckReport.{count_of}
+use Rattle.shade_verdict.specs.declared.violation.Violation.{Violation}
+use Rattle.shade_verdict.specs.Violations.{AreViolations}
+use Rattle.shade_top.specs.Answer.{Answer, IsAnswerTo, check_unread, checked, run_unread, stopped, job_unread, run_, IsChecked, refused, judged, IsRan, nothing_read, shader_read, job_read, Runs, fault_read, refusal, verdict}
+use Rattle.shade_top.specs.Changes.{ShelfChange}
+use Rattle.shade_top.specs.Report.{Outcome, RunOutcome, answer_of}
 use Rattle.shade_top.specs.Request.{Request, Check, Run, File, files, shader_file, job_file}
-use Rattle.shade_top.specs.Serves.{IsReadOf, AreReadsOf}
-use Rattle.shade_top.specs.Text.{Parses}
+use Rattle.shade_top.specs.Serves.{AreReads}
+use Rattle.shade_top.specs.Text.{IsRefused, Parses}
+use Rattle.shade_top.specs.declared.report.Report.{Report}
 
-count_grows : {A : Type 0} (p : A → Bool) (xs ys : List A) → count_by p xs ≤ count_by p (xs ++ ys)
-count_grows p xs ys = let is : count_by p (xs ++ ys) ≡ count_by p xs + count_by p ys = sum_by-append (λ x. cond (p x) 1 0) xs ys in omega arith
+-- ---- results
+
+-- what holds of each report holds of a result that has it
+if_ok : {T E : Type 0} {P Q : T → Type 0} → ((t : T) → P t → Q t) → (result : Result T E) → IfOk result P → IfOk result Q
+if_ok turn (Ok t) p = turn t p
+if_ok turn (Err e) p = tt
+
+-- nothing is asked of a result that is an error
+of_error : {T E : Type 0} (P : T → Type 0) (result : Result T E) → IsErr result → IfOk result P
+of_error P (Ok t) is = absurd (cc)
+of_error P (Err e) is = tt
+
+-- ---- a text
 
 -- a refusal is an answer
-pub is_refused : (bytes : List ℕ) (answer : Answer) → IsRefusal bytes answer → IsChecked bytes answer
-is_refused bytes answer r = subst (IsChecked bytes) (sym r.told) (refused r.why r.is)
+pub refused_checked : {E : Type 0} (result : Result Report E) (bytes : List ℕ) (why : Refusal) → IsRefused bytes why → IfOk result (λ report. answer_of report ≡ refusal why) → IfOk result (λ report. IsChecked bytes (answer_of report))
+refused_checked result bytes why is = if_ok (λ report told. subst (IsChecked bytes) (sym told) (refused why is)) result
 
--- what holds of a read holds with more names before and after it
-pub read_later : (texts : Option (List ℕ → Option (List ℕ))) (before more now : List (List ℕ)) (file : File) (read : Option (List ℕ)) → IsReadOf texts (before ++ more) now file read → IsReadOf texts before now file read
-read_later texts before more now file None rose = let grows : faults_of file.name before ≤ faults_of file.name (before ++ more) = count_grows (bytes_eq file.name) before more in omega arith
-read_later texts before more now file (Some bytes) given = given
+-- so is the verdict on the module that a text stands for
+pub verdict_checked : {E : Type 0} (result : Result Report E) (bytes : List ℕ) (shader : CoreModule) (vs : List Violation) → Parses bytes → StandsFor bytes shader → AreViolations shader.functions vs → IfOk result (λ report. answer_of report ≡ verdict shader.functions vs) → IfOk result (λ report. IsChecked bytes (answer_of report))
+verdict_checked result bytes shader vs parses stands are = if_ok (λ report told. subst (IsChecked bytes) (sym told) (judged parses stands are)) result
 
-pub read_sooner : (texts : Option (List ℕ → Option (List ℕ))) (before now more : List (List ℕ)) (file : File) (read : Option (List ℕ)) → IsReadOf texts before now file read → IsReadOf texts before (now ++ more) file read
-read_sooner texts before now more file None rose = let grows : faults_of file.name now ≤ faults_of file.name (now ++ more) = count_grows (bytes_eq file.name) now more in omega arith
-read_sooner texts before now more file (Some bytes) given = given
+-- ---- a run whose shader is read
 
-module _ (texts : Option (List ℕ → Option (List ℕ))) (before mid now : List (List ℕ)) (file name : List ℕ) (n : ℕ) (grows : mid ≡ before ++ replicate n file) where
-  -- the shader was read, and then nothing, or the job
-  one_more : (bytes : List ℕ) (reads : List (Option (List ℕ))) → IsReadOf texts before mid (shader_file file) (Some bytes) → AreReadsOf texts (job_file name ∷ []) reads mid now → AreReadsOf texts (files (Run file name)) (Some bytes ∷ reads) before now
-  one_more bytes reads first others =
-      (n, subst (λ names. IsReadOf texts before names (shader_file file) (Some bytes)) grows first, subst (λ names. AreReadsOf texts (job_file name ∷ []) reads names now) grows others)
+module _ {E : Type 0} (result : Result Report E) (shelf : ShelfChange) (bytes job : List ℕ) where
+  -- nothing more was read, and memory ran out
+  pub run_stops : IsErr result → shelf.failed' ≡ shelf.failed → RunOutcome shelf bytes job result
+  run_stops is same = record { reads = []; given = same; may = λ file. shader_read; answered = λ file. of_error _ result is }
 
-  job_by : (bytes : List ℕ) (shader : CoreModule) (answer : Answer) → Runs bytes shader → (read : Option (List ℕ)) → AreReadsOf texts (job_file name ∷ []) (read ∷ []) mid now → IsJobAnswer shader name read answer
-      → IsReadOf texts before mid (shader_file file) (Some bytes) → Answers texts before now (Run file name) answer
-  job_by bytes shader answer runs read given unread first = record { reads = Some bytes ∷ None ∷ []; given = one_more bytes (None ∷ []) first given; answered = job_unread runs }
-  job_by bytes shader answer runs read given (read_job {steps = steps} a) first = record { reads = Some bytes ∷ Some steps ∷ []; given = one_more bytes (Some steps ∷ []) first given; answered = run_ runs a }
+  -- nothing more was read, and the answer is that of a check which does not accept the text
+  stops_with : (wanted : Answer) → IsChecked bytes wanted → wanted.status ≢ 0 → shelf.failed' ≡ shelf.failed → IfOk result (λ report. answer_of report ≡ wanted) → RunOutcome shelf bytes job result
+  stops_with wanted is other same told = record {
+    reads = [];
+    given = same;
+    may = λ file. shader_read;
+    answered = λ file. if_ok (λ report e. subst (IsAnswerTo (Run file job) (Some bytes ∷ [])) (sym e) (stopped is other)) result told;
+  }
 
-  module_by : (bytes : List ℕ) (shader : CoreModule) (answer : Answer) → Parses bytes → StandsFor bytes shader → AnswersModule texts mid now shader name answer → IsReadOf texts before mid (shader_file file) (Some bytes) → Answers texts before now (Run file name) answer
-  module_by bytes shader answer parses stands (rejected v not_zero same) first =
-      record { reads = Some bytes ∷ []; given = one_more bytes [] first same; answered = stopped (subst (IsChecked bytes) (sym v.is) (judged parses stands v.are)) not_zero }
-  module_by bytes shader answer parses stands (accepted {violations = vs} are none a) first =
-      job_by bytes shader answer (record { parses = parses; stands = stands; violations = vs; are = are; no_errors = none }) a.read a.given a.answered first
+  pub run_refused : (why : Refusal) → IsRefused bytes why → shelf.failed' ≡ shelf.failed → IfOk result (λ report. answer_of report ≡ refusal why) → RunOutcome shelf bytes job result
+  run_refused why is = stops_with (refusal why) (refused why is) (λ e. cc)
 
-  text_by : (bytes : List ℕ) (answer : Answer) → AnswersText texts mid now bytes name answer → IsReadOf texts before mid (shader_file file) (Some bytes) → Answers texts before now (Run file name) answer
-  text_by bytes answer (refused_text r same) first =
-      record { reads = Some bytes ∷ []; given = one_more bytes [] first same; answered = stopped (is_refused bytes answer r) (λ z. two_zero (sym (ap (λ (x : Answer). x.status) r.told) ∙ z)) } where
-        two_zero : ◌≡◌ {A = ℕ} 2 0 → ⊥
-        two_zero e = cc
-  text_by bytes answer (module_ {shader = shader} parses stands a) first = module_by bytes shader answer parses stands a first
+  pub run_rejected : (shader : CoreModule) (vs : List Violation) → 1 ≤ count_of Error vs → Parses bytes → StandsFor bytes shader → AreViolations shader.functions vs → shelf.failed' ≡ shelf.failed → IfOk result (λ report. answer_of report ≡ verdict shader.functions vs) → RunOutcome shelf bytes job result
+  run_rejected shader vs some parses stands are = stops_with (verdict shader.functions vs) (judged parses stands are) (not_zero (count_of Error vs) some) where
+    by : (none : Bool) → none ≡ false → ◌≡◌ {A = ℕ} (if none then 0 else 1) 0 → ⊥
+    by true off e = cc
+    by false off e = cc
 
-  -- a run whose shader was read
-  pub run_read : {T E : Type 0} (f : T → Answer) (result : Result T E) (bytes : List ℕ) (read : Option (List ℕ)) (request : Request) → request ≡ Run file name → IsReadOf texts before mid (shader_file file) read → read ≡ Some bytes
-      → IfOk result (λ report. AnswersText texts mid now bytes name (f report)) → IfOk result (λ report. Answers texts before now request (f report))
-  run_read f (Ok report) bytes read request asked given found a =
-      subst (λ q. Answers texts before now q (f report)) (sym asked) (text_by bytes (f report) a (subst (IsReadOf texts before mid (shader_file file)) found given))
-  run_read f (Err e) bytes read request asked given found a = tt
+    not_zero : (count : ℕ) → 1 ≤ count → ◌≡◌ {A = ℕ} (if count == 0 then 0 else 1) 0 → ⊥
+    not_zero count more = by (count == 0) (grind (arith, nat_tests))
 
-module _ {T E : Type 0} (f : T → Answer) (result : Result T E) (texts : Option (List ℕ → Option (List ℕ))) (before now : List (List ℕ)) (request : Request) (file : List ℕ) (n : ℕ) (grows : now ≡ before ++ replicate n file) (read : Option (List ℕ)) (given : IsReadOf texts before now (shader_file file) read) where
-  reads_are : (others : List File) (wanted : Option (List ℕ)) → read ≡ wanted → AreReadsOf texts (shader_file file ∷ others) (wanted ∷ []) before now
-  reads_are others wanted found = (n, subst (λ names. IsReadOf texts before names (shader_file file) wanted) grows (subst (IsReadOf texts before now (shader_file file)) found given), grows)
+  -- the job was read, or its read failed
+  pub run_by_job : (shader : CoreModule) (steps : List ℕ) → Runs bytes shader → AreReads shelf.texts (job_file job ∷ []) (Some steps ∷ []) shelf.failed shelf.failed' → IfOk result (λ report. IsRan shader steps (answer_of report)) → RunOutcome shelf bytes job result
+  run_by_job shader steps runs given ran = record {
+    reads = Some steps ∷ [];
+    given = given;
+    may = λ file. job_read runs;
+    answered = λ file. if_ok (λ report r. run_ runs r) result ran;
+  }
 
-  -- a run whose shader was not read
-  pub run_fault : (name : List ℕ) → request ≡ Run file name → read ≡ None → IfOk result (λ report. f report ≡ fault_read file) → IfOk result (λ report. Answers texts before now request (f report))
-  run_fault name asked found answers = by result answers where
-    by : (r : Result T E) → IfOk r (λ report. f report ≡ fault_read file) → IfOk r (λ report. Answers texts before now request (f report))
-    by (Ok report) a = subst (λ q. Answers texts before now q (f report)) (sym asked) (record { reads = None ∷ []; given = reads_are (job_file name ∷ []) None found; answered = subst (IsAnswerTo (Run file name) (None ∷ [])) (sym a) run_unread })
-    by (Err e) a = tt
+  pub run_job_unread : (shader : CoreModule) → Runs bytes shader → AreReads shelf.texts (job_file job ∷ []) (None ∷ []) shelf.failed shelf.failed' → IfOk result (λ report. answer_of report ≡ fault_read job) → RunOutcome shelf bytes job result
+  run_job_unread shader runs given told = record {
+    reads = None ∷ [];
+    given = given;
+    may = λ file. job_read runs;
+    answered = λ file. if_ok (λ report e. subst (IsAnswerTo (Run file job) (Some bytes ∷ None ∷ [])) (sym e) (job_unread runs)) result told;
+  }
 
-  -- a check whose text was not read
-  pub check_fault : request ≡ Check file → read ≡ None → IfOk result (λ report. f report ≡ fault_read file) → IfOk result (λ report. Answers texts before now request (f report))
-  check_fault asked found answers = by result answers where
-    by : (r : Result T E) → IfOk r (λ report. f report ≡ fault_read file) → IfOk r (λ report. Answers texts before now request (f report))
-    by (Ok report) a = subst (λ q. Answers texts before now q (f report)) (sym asked) (record { reads = None ∷ []; given = reads_are [] None found; answered = subst (IsAnswerTo (Check file) (None ∷ [])) (sym a) check_unread })
-    by (Err e) a = tt
+-- a module without an error runs
+pub no_error_runs : (bytes : List ℕ) (shader : CoreModule) (vs : List Violation) → (1 ≤ count_of Error vs → ⊥) → Parses bytes → StandsFor bytes shader → AreViolations shader.functions vs → Runs bytes shader
+no_error_runs bytes shader vs none parses stands are = record { parses = parses; stands = stands; violations = vs; are = are; no_errors = zero_ (count_of Error vs) none } where
+  zero_ : (count : ℕ) → (1 ≤ count → ⊥) → count ≡ 0
+  zero_ zero empty = refl
+  zero_ (suc count) empty = absurd (empty (omega arith))
 
-  -- a check whose text was read
-  pub check_read : (bytes : List ℕ) → request ≡ Check file → read ≡ Some bytes → IfOk result (λ report. IsChecked bytes (f report)) → IfOk result (λ report. Answers texts before now request (f report))
-  check_read bytes asked found answers = by result answers where
-    by : (r : Result T E) → IfOk r (λ report. IsChecked bytes (f report)) → IfOk r (λ report. Answers texts before now request (f report))
-    by (Ok report) a = subst (λ q. Answers texts before now q (f report)) (sym asked) (record { reads = Some bytes ∷ []; given = reads_are [] (Some bytes) found; answered = checked a })
-    by (Err e) a = tt
+-- ---- a request
+
+module _ {E : Type 0} (result : Result Report E) (texts : Option (List ℕ → Option (List ℕ))) (before now : List (List ℕ)) (request : Request) (file : List ℕ) where
+  -- the shelf of the call
+  abbrev Shelf : ShelfChange
+  Shelf = record { texts = texts; failed = before; failed' = now }
+
+  -- memory ran out at the first read
+  pub nothing_outcome : IsErr result → now ≡ before → Outcome Shelf request result
+  nothing_outcome is same = record { reads = []; given = none_read (files request); may = nothing_read; answered = of_error _ result is } where
+    none_read : (fs : List File) → AreReads texts fs [] before now
+    none_read [] = same
+    none_read (f ∷ fs) = same
+
+  pub check_outcome : request ≡ Check file → (bytes : List ℕ) → AreReads texts (shader_file file ∷ []) (Some bytes ∷ []) before now → IfOk result (λ report. IsChecked bytes (answer_of report)) → Outcome Shelf request result
+  check_outcome asked bytes given is = subst (λ (q : Request). Outcome Shelf q result) (sym asked) (record { reads = Some bytes ∷ []; given = given; may = shader_read; answered = if_ok (λ report c. checked c) result is })
+
+  pub check_unread_outcome : request ≡ Check file → AreReads texts (shader_file file ∷ []) (None ∷ []) before now → IfOk result (λ report. answer_of report ≡ fault_read file) → Outcome Shelf request result
+  check_unread_outcome asked given told =
+      subst (λ (q : Request). Outcome Shelf q result) (sym asked) (record { reads = None ∷ []; given = given; may = shader_read; answered = if_ok (λ report e. subst (IsAnswerTo (Check file) (None ∷ [])) (sym e) check_unread) result told })
+
+  pub run_unread_outcome : (job : List ℕ) → request ≡ Run file job → AreReads texts (shader_file file ∷ []) (None ∷ []) before now → IfOk result (λ report. answer_of report ≡ fault_read file) → Outcome Shelf request result
+  run_unread_outcome job asked given told =
+      subst (λ (q : Request). Outcome Shelf q result) (sym asked) (record { reads = None ∷ []; given = given; may = shader_read; answered = if_ok (λ report e. subst (IsAnswerTo (Run file job) (None ∷ [])) (sym e) run_unread) result told })
+
+  -- the shader was read, and then what a run reads
+  pub run_outcome : (mid : List (List ℕ)) (job bytes : List ℕ) → request ≡ Run file job → AreReads texts (shader_file file ∷ []) (Some bytes ∷ []) before mid → RunOutcome (record { texts = texts; failed = mid; failed' = now }) bytes job result → Outcome Shelf request result
+  run_outcome mid job bytes asked given o =
+      subst (λ (q : Request). Outcome Shelf q result) (sym asked) (record { reads = Some bytes ∷ o.reads; given = (given.0, subst (λ names. AreReads texts (job_file job ∷ []) o.reads names now) given.1 o.given); may = o.may file; answered = o.answered file })
+
+-- what a read gave, known
+pub read_as : (texts : Option (List ℕ → Option (List ℕ))) (file : File) (before now : List (List ℕ)) (read wanted : Option (Vec ℕ Global)) → read ≡ wanted
+    → AreReads texts (file ∷ []) (option_map (λ bytes. bytes.items) read ∷ []) before now → AreReads texts (file ∷ []) (option_map (λ bytes. bytes.items) wanted ∷ []) before now
+read_as texts file before now read wanted is = subst (λ (r : Option (Vec ℕ Global)). AreReads texts (file ∷ []) (option_map (λ bytes. bytes.items) r ∷ []) before now) is

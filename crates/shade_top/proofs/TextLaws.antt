@@ -1,5 +1,5 @@
 -- Why a text is refused is one.
-use Rattle.std.proofs.Common.{◌≡◌, refl, sym, ap, ap₂, subst, ℕ, ◌<◌, ◌≤◌, ◌∙◌, List, length, take, arith}
+use Rattle.std.proofs.Common.{◌≡◌, refl, sym, ap, ap₂, subst, ℕ, ◌<◌, ◌≤◌, ◌∙◌, List, length, arith}
 use Rattle.std.specs.Str.{IsUtf8, IsValidUpTo}
 use Rattle.std.proofs.lemmas.List.{take_all}
 use Rattle.std.proofs.lemmas.Str.{utf8_valid_len-IsValidUpTo}
@@ -16,7 +16,9 @@ use Rattle.shade_parse.specs.Once.{IsParsedOnce}
 use Rattle.shade_core.specs.declared.module.CoreModule.{CoreModule}
 use Rattle.shade_first.specs.FirstForm.{StandsFor}
 use Rattle.shade_first.specs.Laws.{OnePlace, NeverBoth}
-use Rattle.shade_top.specs.Text.{IsText, HasTokens, Parses, Refusal, TooLong, Utf8, Lex, Unexpected, TooDeep, NotYet, IsRefused}
+use Rattle.shade_report.specs.declared.refusal.Refusal.{Refusal}
+use Rattle.shade_report.specs.declared.refusal.Refusal.TheVariants.{TooLong, Utf8, Lex, Unexpected, TooDeep, NotYet}
+use Rattle.shade_top.specs.Text.{HasTokens, Parses, IsRefused}
 
 -- bytes that are UTF-8 have no fault
 no_fault : (bytes : List ℕ) (offset : ℕ) → IsUtf8 bytes → IsValidUpTo bytes offset → ⊥

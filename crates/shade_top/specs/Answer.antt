@@ -5,7 +5,9 @@ use Rattle.shade_core.specs.declared.module.CoreModule.{CoreModule}
 use Rattle.shade_core.specs.declared.module.CoreFunction.{CoreFunction}
 use Rattle.shade_verdict.specs.declared.violation.Violation.{Violation}
 use Rattle.shade_verdict.specs.Violations.{AreViolations}
+use Rattle.shade_report.specs.declared.refusal.Refusal.{Refusal}
 use Rattle.shade_report.specs.CheckReport.{count_of, check_report}
+use Rattle.shade_report.specs.Refusals.{job_refusal_line, refusal_line}
 use Rattle.shade_report.specs.RunReport.{run_report}
 use Rattle.shade_first.specs.FirstForm.{StandsFor}
 use Rattle.shade_mem.specs.declared.inputs.Inputs.{Inputs}
@@ -14,7 +16,7 @@ use Rattle.shade_group.specs.declared.event.RunEnd.TheVariants as run_end
 use Rattle.shade_group.specs.Group.{Machine, begin, run, run_end_of}
 use Rattle.shade_job.specs.Steps.{States}
 use Rattle.shade_top.specs.Request.{Request, Check, Run, request_of}
-use Rattle.shade_top.specs.Text.{Refusal, IsRefused, Parses, refusal_line}
+use Rattle.shade_top.specs.Text.{IsRefused, Parses}
 
 pub record Answer : Type 0 where
   pub status : ℕ
@@ -28,11 +30,8 @@ fault_read name = record { status = 5; text = (codes "fault read " ++ name) ++ c
 
 -- ---- checks
 
-abbrev pub refused_by : List ℕ → Answer
-refused_by line = record { status = 2; text = line }
-
 abbrev pub refusal : Refusal → Answer
-refusal why = refused_by (refusal_line why)
+refusal why = record { status = 2; text = refusal_line why }
 
 -- 1 where a violation is an error
 abbrev pub verdict_status : List Violation → ℕ
@@ -78,7 +77,7 @@ abbrev pub outcome : CoreModule → Machine → Answer
 outcome shader m = record { status = run_status (run_end_of m); text = run_report shader.functions m }
 
 abbrev pub refused_job : Answer
-refused_job = record { status = 4; text = codes "refused job / J1\n" }
+refused_job = record { status = 4; text = job_refusal_line }
 
 -- the bytes state no list of steps
 abbrev pub NoJob : CoreModule → List ℕ → Type 0
@@ -100,6 +99,13 @@ pub data IsAnswerTo : Request → List (Option (List ℕ)) → Answer → Type 0
   stopped : {file job bytes : List ℕ} {answer : Answer} → IsChecked bytes answer → answer.status ≢ 0 → IsAnswerTo (Run file job) (Some bytes ∷ []) answer
   job_unread : {file job bytes : List ℕ} {shader : CoreModule} → Runs bytes shader → IsAnswerTo (Run file job) (Some bytes ∷ None ∷ []) (fault_read job)
   run_ : {file job bytes steps : List ℕ} {shader : CoreModule} {answer : Answer} → Runs bytes shader → IsRan shader steps answer → IsAnswerTo (Run file job) (Some bytes ∷ Some steps ∷ []) answer
+
+-- The reads that a call for a request may have made where memory ran out: none, that of the shader, or those of the shader and of the job,
+-- and the latter only where the shader runs.
+pub data MayRead : Request → List (Option (List ℕ)) → Type 0 where
+  nothing_read : {request : Request} → MayRead request []
+  shader_read : {request : Request} {read : Option (List ℕ)} → MayRead request (read ∷ [])
+  job_read : {file job bytes : List ℕ} {read : Option (List ℕ)} {shader : CoreModule} → Runs bytes shader → MayRead (Run file job) (Some bytes ∷ read ∷ [])
 
 -- The answer to the words, by what the reads of the files that they name gave.
 pub data IsAnswer (words : List (List ℕ)) (reads : List (Option (List ℕ))) : Answer → Type 0 where

@@ -1,5 +1,6 @@
 pub mod Answer
 pub mod Causes
+pub mod Changes
 pub mod Laws
 pub mod Report
 pub mod Request

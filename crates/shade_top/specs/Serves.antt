@@ -1,75 +1,36 @@
--- What a call of the program's top call did: what it read, and how its writing ended.
-use Rattle.std.specs.Prelude.{◌≡◌, ◌≢◌, ℕ, ◌<◌, ◌≤◌, List, [], ◌∷◌, ◌++◌, length, map, replicate, take, Option, None, Some, IfSome}
-use Rattle.shade_base.specs.Counter.{Rose}
-use Rattle.shade_base.specs.Shelf.{faults_of, front_of}
+-- What a call of the program's top call did: what it read, what it wrote, and why it ended as it did.
+use Rattle.std.specs.Prelude.{◌≡◌, ℕ, ◌≤◌, List, [], ◌∷◌, ◌++◌, length, take, Option, None, Some, IfSome}
+use Rattle.shade_base.specs.Counter.{one_more}
+use Rattle.shade_base.specs.Shelf.{front_of}
 use Rattle.shade_base.specs.Sink.{with_piece}
-use Rattle.shade_core.specs.declared.module.CoreModule.{CoreModule}
-use Rattle.shade_top.specs.Answer.{Answer, IsAnswer, Runs, fault_read}
-use Rattle.shade_top.specs.Request.{File, Run, request_of, files_of, shader_file, job_file}
+use Rattle.shade_top.specs.Answer.{Answer, IsAnswer, MayRead}
+use Rattle.shade_top.specs.Causes.{HasCause}
+use Rattle.shade_top.specs.Changes.{ShelfChange, SinkChange}
+use Rattle.shade_top.specs.Request.{Request, File, request_of, files_of}
 
--- What a read of a file gave: the first bytes of its text, where the texts are told, or nothing where the name's count of faults rose.
-abbrev pub IsReadOf : Option (List ℕ → Option (List ℕ)) → List (List ℕ) → List (List ℕ) → File → Option (List ℕ) → Type 0
-IsReadOf texts failed failed' file None = faults_of file.name failed < faults_of file.name failed'
-IsReadOf texts failed failed' file (Some bytes) = IfSome texts (λ texts. front_of texts file.name file.limit ≡ Some bytes)
+-- Some files were read, each once and one after another, from the first on. A read gave the first bytes of the file's text, if the
+-- texts are told; or nothing, and then the file's name joined the failed names. No other name did.
+abbrev pub AreReads : Option (List ℕ → Option (List ℕ)) → List File → List (Option (List ℕ)) → List (List ℕ) → List (List ℕ) → Type 0
+AreReads texts files [] failed failed' = failed' ≡ failed
+AreReads texts [] (read ∷ reads) failed failed' = ⊥
+AreReads texts (file ∷ files) (None ∷ reads) failed failed' = AreReads texts files reads (failed ++ file.name ∷ []) failed'
+AreReads texts (file ∷ files) (Some bytes ∷ reads) failed failed' = IfSome texts (λ texts. front_of texts file.name file.limit ≡ Some bytes) × AreReads texts files reads failed failed'
 
--- Some files were read, one after another, from the first on: what their reads gave, and what they added to the failed names.
-abbrev pub AreReadsOf : Option (List ℕ → Option (List ℕ)) → List File → List (Option (List ℕ)) → List (List ℕ) → List (List ℕ) → Type 0
-AreReadsOf texts files [] failed failed' = failed' ≡ failed
-AreReadsOf texts [] (read ∷ reads) failed failed' = ⊥
-AreReadsOf texts (file ∷ files) (read ∷ reads) failed failed' =
-    (n : ℕ) × IsReadOf texts failed (failed ++ replicate n file.name) file read × AreReadsOf texts files reads (failed ++ replicate n file.name) failed'
+-- The text of an answer was written by one call: whole, and the status is that of the answer; or the write failed after a beginning of
+-- the text, was counted as a fault, and the status is 6.
+pub data IsWritten (answer : Answer) (sink : SinkChange) (status : ℕ) : Type 0 where
+  whole : status ≡ answer.status → sink.taken' ≡ with_piece sink.taken answer.text → sink.faults' ≡ sink.faults → IsWritten answer sink status
+  cut : (n : ℕ) → n ≤ length answer.text → status ≡ 6 → sink.taken' ≡ with_piece sink.taken (take n answer.text) → sink.faults' ≡ one_more sink.faults → IsWritten answer sink status
 
--- Failed names were added at the end: the first of some names, perhaps several times, then the second, and so on.
-abbrev pub Adds : List (List ℕ) → List (List ℕ) → List (List ℕ) → Type 0
-Adds [] failed failed' = failed' ≡ failed
-Adds (name ∷ names) failed failed' = (n : ℕ) × Adds names (failed ++ replicate n name) failed'
+-- The answer to the words and to what was read was written; or memory ran out on the way to the answer to words that fit a form,
+-- nothing was written, and the status is 7.
+pub data Ends (words : List (List ℕ)) (reads : List (Option (List ℕ))) (sink : SinkChange) (status : ℕ) : Type 0 where
+  written : {answer : Answer} → IsAnswer words reads answer → IsWritten answer sink status → Ends words reads sink status
+  no_memory : {request : Request} → request_of words ≡ Some request → MayRead request reads → status ≡ 7 → sink.taken' ≡ sink.taken → sink.faults' ≡ sink.faults → Ends words reads sink status
 
-abbrev pub names_of : List (List ℕ) → List (List ℕ)
-names_of words = map (λ (file : File). file.name) (files_of words)
-
--- A file that the words name failed to be read, and its name was printed.
-pub record FaultOf (words : List (List ℕ)) (failed failed' : List (List ℕ)) (taken taken' : Option (List ℕ)) : Type 0 where
-  pub file : File
-  pub before : List File
-  pub after : List File
-  pub named : files_of words ≡ before ++ file ∷ after
-  pub rose : faults_of file.name failed < faults_of file.name failed'
-  pub told : taken' ≡ with_piece taken (fault_read file.name).text
-
--- The shader that the words name was read, and of its bytes something holds.
-pub record ShaderRead (words : List (List ℕ)) (texts : Option (List ℕ → Option (List ℕ))) (failed failed' : List (List ℕ)) (Holds : List ℕ → Type 0) : Type 0 where
-  pub file : List ℕ
-  pub after : List File
-  pub named : files_of words ≡ shader_file file ∷ after
-  pub bytes : List ℕ
-  pub read : IsReadOf texts failed failed' (shader_file file) (Some bytes)
-  pub holds : Holds bytes
-
--- Both files of a run were read, and of the module that its shader stands for and the bytes of its job something holds.
-pub record JobRead (words : List (List ℕ)) (texts : Option (List ℕ → Option (List ℕ))) (failed failed' : List (List ℕ)) (Holds : CoreModule → List ℕ → Type 0) : Type 0 where
-  pub file : List ℕ
-  pub job : List ℕ
-  pub asked : request_of words ≡ Some (Run file job)
-  pub bytes : List ℕ
-  pub read : IsReadOf texts failed failed' (shader_file file) (Some bytes)
-  pub shader : CoreModule
-  pub runs : Runs bytes shader
-  pub steps : List ℕ
-  pub steps_read : IsReadOf texts failed failed' (job_file job) (Some steps)
-  pub holds : Holds shader steps
-
--- How a call ended that had an answer: with its status and its whole text written; with status 6 and a beginning of the text, and
--- then the sink's count of faults rose; or with status 7, for want of memory, and nothing written. The count never falls.
-pub record Ends (answer : Answer) (taken taken' : Option (List ℕ)) (faults faults' status : ℕ) : Type 0 where
-  pub later : faults ≤ faults'
-  pub whole : status ≢ 6 → status ≢ 7 → (status ≡ answer.status) × (taken' ≡ with_piece taken answer.text)
-  pub cut : status ≡ 6 → Rose faults faults' × ((n : ℕ) × (n ≤ length answer.text) × (taken' ≡ with_piece taken (take n answer.text)))
-  pub nothing : status ≡ 7 → (taken' ≡ taken) × (faults' ≡ faults)
-
--- The status and the bytes written are those of the answer to the words and to what the shelf gave for the files that they name.
-pub record Serves (words : List (List ℕ)) (texts : Option (List ℕ → Option (List ℕ))) (failed failed' : List (List ℕ)) (taken taken' : Option (List ℕ)) (faults faults' status : ℕ) : Type 0 where
+-- A call for these words read some of the files that they name and ended with this status, for its cause.
+pub record Serves (words : List (List ℕ)) (shelf : ShelfChange) (sink : SinkChange) (status : ℕ) : Type 0 where
   pub reads : List (Option (List ℕ))
-  pub answer : Answer
-  pub given : status ≢ 7 → AreReadsOf texts (files_of words) reads failed failed'
-  pub answered : status ≢ 7 → IsAnswer words reads answer
-  pub ends : Ends answer taken taken' faults faults' status
+  pub given : AreReads shelf.texts (files_of words) reads shelf.failed shelf.failed'
+  pub ends : Ends words reads sink status
+  pub cause : HasCause words reads shelf sink status

@@ -1,5 +1,6 @@
-// A law of the answer.
-ghost use Rattle.shade_top.specs.Laws.{OneAnswer};
+//! Laws of the answer and of calls. Their functions do nothing when they run.
+
+ghost use Rattle.shade_top.specs.Laws.{Completeness, ExactStatuses, OneAnswer};
 
 use shade_first::{never_both, one_module, one_place};
 use shade_job::one_job;
@@ -22,3 +23,24 @@ pub fn answers_are_one()
     templates_are_one();
     tokens_are_parsed_once();
 }
+
+/// Each status of an answer comes exactly where its cause holds: 0, 1, 2, 3, 4, 5, 8 and 9.
+pub fn statuses_are_exact()
+    ensures { ExactStatuses }
+{
+    one_module();
+    one_place();
+    never_both();
+    violations_are_one_list();
+    one_job();
+    first_form_runs();
+    texts_are_read_once();
+    templates_are_one();
+    tokens_are_parsed_once();
+}
+
+/// Words that fit a form are answered by 0, 1, 8 or 9 where no read and no write fails, the text is not refused and the job is
+/// one, or memory runs out.
+pub fn fitting_words_are_answered()
+    ensures { Completeness }
+{}

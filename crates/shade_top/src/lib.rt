@@ -1,7 +1,7 @@
 //! The top call: all that the program does with its words.
 //!
-//! What the words ask for stands in `specs/Request.antt`, what it answers in `specs/Answer.antt`, and how a call reads and
-//! writes in `specs/Serves.antt`; why a text is refused in `specs/Text.antt`.
+//! What the words ask for stands in `specs/Request.antt`, what it answers in `specs/Answer.antt`, why a text is refused in
+//! `specs/Text.antt`, what a call reads and writes in `specs/Serves.antt`, and why each status comes in `specs/Causes.antt`.
 #![tactic(auto)]
 
 mod law;
@@ -11,7 +11,7 @@ mod run;
 mod text;
 mod top_call;
 
-pub use law::answers_are_one;
+pub use law::{answers_are_one, fitting_words_are_answered, statuses_are_exact};
 pub use shade_first::{FirstFault, first_form};
 pub use top_call::serve;
 

@@ -1,25 +1,28 @@
 //! The answer to a request: reading its files, and what is said of them.
 
-ghost use Rattle.std.specs.Prelude.{◌≡◌, ◌<◌, ◌++◌, ℕ, map, replicate, IfOk};
+ghost use Rattle.std.specs.Prelude.{◌≡◌, ◌<◌, ◌≤◌, ◌↔◌, ℕ, List, [], ◌∷◌, IsTrue, IfOk, MatchResult};
 ghost use Rattle.std.specs.Option.{option_map};
-ghost use Rattle.shade_top.specs.Answer.{IsChecked, fault_read, verdict_status};
-ghost use Rattle.shade_top.specs.Report.{answer_of, Answers, IsVerdict, request_seen};
-ghost use Rattle.shade_top.specs.Request.{files};
-ghost use Rattle.shade_top.specs.Serves.{Adds, IsReadOf};
+ghost use Rattle.shade_first.specs.FirstForm.{StandsFor};
+ghost use Rattle.shade_report.specs.CheckReport.{count_of};
+ghost use Rattle.shade_top.specs.Answer.{IsChecked, fault_read, refusal as refusal_answer, verdict as verdict_answer, verdict_status};
+ghost use Rattle.shade_top.specs.Changes.{shelf_change};
+ghost use Rattle.shade_top.specs.Report.{answer_of, Outcome, request_seen};
+ghost use Rattle.shade_top.specs.Serves.{AreReads};
+ghost use Rattle.shade_top.specs.Text.{Parses};
 
 use crate::request::Request;
 use crate::run::run_bytes;
 use crate::text::{Reading, TEXT_LIMIT, read_shader};
-use shade_base::{Severity, Shelf, ShelfRefusal};
+use shade_base::{Severity, Shelf, ShelfRefusal, Status};
 use shade_core::CoreModule;
-use shade_report::{check_text, count_with};
+use shade_report::{Refusal, check_text, count_with, refusal_text};
 use shade_verdict::{Violation, violations_of};
 use std::alloc::{AllocError, Global};
 
 /// A status and the text that goes with it.
 #[derive(Drop)]
 pub struct Report {
-    pub status: u8,
+    pub status: Status,
     pub text: Vec<u8>,
 }
 
@@ -29,23 +32,22 @@ pub fn report_on<H: Shelf>(
     request: Request,
     shelf: &mut H,
 ) -> Result<Report, AllocError>
-    ensures answers { IfOk result (λ report. Answers (H.texts shelf.old) (H.failed shelf.old) (H.failed shelf.new) (request_seen request.entry) (answer_of report)) }
+    ensures outcome { Outcome (shelf_change (H.texts shelf.old) (H.failed shelf.old) (H.failed shelf.new)) (request_seen request.entry) result }
     ensures texts { H.texts shelf.new ≡ H.texts shelf.old }
-    ensures names { Adds (map (λ file. file.name) (files (request_seen request.entry))) (H.failed shelf.old) (H.failed shelf.new) }
 {
     match request {
         Request::Check(file) => match read(alloc, file, TEXT_LIMIT, shelf)? {
             Some(bytes) => check(alloc, &bytes),
-            None => fault(alloc, file),
+            None => unread(alloc, file),
         },
         Request::Run(file, job) => match read(alloc, file, TEXT_LIMIT, shelf)? {
             Some(bytes) => run_bytes(alloc, &bytes, job, shelf),
-            None => fault(alloc, file),
+            None => unread(alloc, file),
         },
     }
 }
 
-/// What a read of a file gives: its first bytes, or nothing where it fails.
+/// Reads a file: its first bytes, or nothing where the read fails.
 pub fn read<H: Shelf>(
     alloc: Global,
     name: &str,
@@ -53,9 +55,8 @@ pub fn read<H: Shelf>(
     shelf: &mut H,
 ) -> Result<Option<Vec<u8>>, AllocError>
     requires { limit < usize.MAX }
-    ensures given { IfOk result (λ read. IsReadOf (H.texts shelf.old) (H.failed shelf.old) (H.failed shelf.new) (record { name = name.now; limit = limit }) (option_map (λ bytes. bytes.items) read)) }
+    ensures given { MatchResult result (λ read. AreReads (H.texts shelf.old) (record { name = name.now; limit = limit } ∷ []) (option_map (λ bytes. bytes.items) read ∷ []) (H.failed shelf.old) (H.failed shelf.new)) (λ e. H.failed shelf.new ≡ H.failed shelf.old) }
     ensures texts { H.texts shelf.new ≡ H.texts shelf.old }
-    ensures names { (n : ℕ) × (H.failed shelf.new ≡ H.failed shelf.old ++ replicate n name.now) }
 {
     match shelf.read(alloc, name, limit) {
         Ok(bytes) => Ok(Some(bytes)),
@@ -65,45 +66,74 @@ pub fn read<H: Shelf>(
 }
 
 /// Says that a file was not read.
-pub fn fault(alloc: Global, name: &str) -> Result<Report, AllocError>
+pub fn unread(alloc: Global, name: &str) -> Result<Report, AllocError>
     ensures { IfOk result (λ report. answer_of report ≡ fault_read name.now) }
 {
     let text = format!(in alloc; "fault read {name}\n")?;
     Ok(Report {
-        status: 5,
+        status: Status::UNREAD,
         text: text.into_bytes(),
     })
 }
 
-/// The report on a text.
+/// Says why a text is refused.
+pub fn refused(alloc: Global, refusal: Refusal) -> Result<Report, AllocError>
+    ensures { IfOk result (λ report. answer_of report ≡ refusal_answer refusal) }
+{
+    let text = refusal_text(alloc, refusal)?;
+    Ok(Report {
+        status: Status::REFUSED,
+        text: text.into_bytes(),
+    })
+}
+
+/// Checks a text.
 fn check(alloc: Global, bytes: &[u8]) -> Result<Report, AllocError>
     ensures { IfOk result (λ report. IsChecked bytes.now (answer_of report)) }
 {
     match read_shader(alloc, bytes) {
         Ok(Reading::Shader(shader)) => judge(alloc, &shader),
-        Ok(Reading::Refused(report)) => Ok(report),
+        Ok(Reading::Refused(refusal)) => refused(alloc, refusal),
         Err(AllocError) => Err(AllocError),
     }
 }
 
-fn status_of(violations: &[Violation]) -> u8
-    ensures { result ≡ verdict_status violations.now }
+/// Judges the module that a text stands for.
+fn judge(alloc: Global, shader: &CoreModule) -> Result<Report, AllocError>
+    ensures { (bytes : List ℕ) → Parses bytes → StandsFor bytes shader.now → IfOk result (λ report. IsChecked bytes (answer_of report)) }
+{
+    let violations = violations_of(alloc, shader)?;
+    verdict(alloc, shader, &violations)
+}
+
+/// Whether some violation is an error.
+pub fn has_error(violations: &[Violation]) -> bool
+    ensures { IsTrue result ↔ (1 ≤ count_of Severity.Error violations.now) }
+{
+    count_with(violations, Severity::Error) > 0
+}
+
+fn status_of(violations: &[Violation]) -> Status
+    ensures { result.0 ≡ verdict_status violations.now }
 {
     if count_with(violations, Severity::Error) == 0 {
-        0
+        Status::ACCEPTED
     } else {
-        1
+        Status::REJECTED
     }
 }
 
-/// The verdict on a module.
-pub fn judge(alloc: Global, checked: &CoreModule) -> Result<Report, AllocError>
-    ensures { IfOk result (λ report. IsVerdict checked.now.functions (answer_of report)) }
+/// Says how a module is judged whose violations these are.
+pub fn verdict(
+    alloc: Global,
+    shader: &CoreModule,
+    violations: &[Violation],
+) -> Result<Report, AllocError>
+    ensures { IfOk result (λ report. answer_of report ≡ verdict_answer shader.now.functions violations.now) }
 {
-    let violations = violations_of(alloc, checked)?;
-    let text = check_text(alloc, checked, &violations)?;
+    let text = check_text(alloc, shader, violations)?;
     Ok(Report {
-        status: status_of(&violations),
+        status: status_of(violations),
         text,
     })
 }

@@ -1,43 +1,47 @@
 //! The answer to a run of a shader by a job.
 
-ghost use Rattle.std.specs.Prelude.{◌≡◌, ◌<◌, ◌++◌, [], ℕ, length, replicate, slice_get, Some, IfOk};
+ghost use Rattle.std.specs.Prelude.{◌≡◌, ◌<◌, ℕ, List, [], length, slice_get, Some, IfOk};
+ghost use Rattle.shade_first.specs.FirstForm.{StandsFor};
 ghost use Rattle.shade_group.specs.Group.{run};
 ghost use Rattle.shade_group.specs.Seen.{machine_of};
-ghost use Rattle.shade_top.specs.Answer.{inputs as run_inputs, IsRan, outcome, refused_job as refused_job_answer, run_status};
-ghost use Rattle.shade_top.specs.Report.{answer_of, AnswersJob, AnswersModule, AnswersText, IsReady};
+ghost use Rattle.shade_top.specs.Answer.{inputs as run_inputs, IsRan, outcome, refused_job as refused_job_answer, run_status, Runs};
+ghost use Rattle.shade_top.specs.Changes.{shelf_change};
+ghost use Rattle.shade_top.specs.Report.{answer_of, IsReady, RunOutcome};
+ghost use Rattle.shade_top.specs.Text.{Parses};
 
-use crate::report::{Report, fault, judge, read};
+use crate::report::{Report, has_error, read, refused, unread, verdict};
 use crate::text::{Reading, read_shader};
-use shade_base::Shelf;
+use shade_base::{Shelf, Status};
 use shade_core::CoreModule;
 use shade_group::{Group, RunEnd};
 use shade_job::{JobFault, MOST_BYTES, read_steps};
 use shade_mem::Inputs;
-use shade_report::run_text;
+use shade_report::{job_refusal_text, run_text};
 use shade_sound::first_form_runs;
+use shade_verdict::violations_of;
 use sqlite_items::Items;
 use std::alloc::{AllocError, Global};
 
-/// The report on a run of a text, whose job is read where the text is a shader without an error.
+/// Runs a text by a job, which is read where the text is a shader without an error.
 pub fn run_bytes<H: Shelf>(
     alloc: Global,
     bytes: &[u8],
     job: &str,
     shelf: &mut H,
 ) -> Result<Report, AllocError>
-    ensures answers { IfOk result (λ report. AnswersText (H.texts shelf.old) (H.failed shelf.old) (H.failed shelf.new) bytes.now job.now (answer_of report)) }
+    ensures outcome { RunOutcome (shelf_change (H.texts shelf.old) (H.failed shelf.old) (H.failed shelf.new)) bytes.now job.now result }
     ensures texts { H.texts shelf.new ≡ H.texts shelf.old }
-    ensures names { (n : ℕ) × (H.failed shelf.new ≡ H.failed shelf.old ++ replicate n job.now) }
 {
+    // A law, whose clause the proof uses; it does nothing when it runs.
     first_form_runs();
     match read_shader(alloc, bytes) {
         Ok(Reading::Shader(shader)) => run_shader(alloc, &shader, job, shelf),
-        Ok(Reading::Refused(report)) => Ok(report),
+        Ok(Reading::Refused(refusal)) => refused(alloc, refusal),
         Err(AllocError) => Err(AllocError),
     }
 }
 
-/// The report on a run of a module.
+/// Runs the module that a text stands for.
 fn run_shader<H: Shelf>(
     alloc: Global,
     shader: &CoreModule,
@@ -45,18 +49,17 @@ fn run_shader<H: Shelf>(
     shelf: &mut H,
 ) -> Result<Report, AllocError>
     requires { IsReady shader.now }
-    ensures answers { IfOk result (λ report. AnswersModule (H.texts shelf.old) (H.failed shelf.old) (H.failed shelf.new) shader.now job.now (answer_of report)) }
+    ensures outcome { (bytes : List ℕ) → Parses bytes → StandsFor bytes shader.now → RunOutcome (shelf_change (H.texts shelf.old) (H.failed shelf.old) (H.failed shelf.new)) bytes job.now result }
     ensures texts { H.texts shelf.new ≡ H.texts shelf.old }
-    ensures names { (n : ℕ) × (H.failed shelf.new ≡ H.failed shelf.old ++ replicate n job.now) }
 {
-    let verdict = judge(alloc, shader)?;
-    if verdict.status != 0 {
-        return Ok(verdict);
+    let violations = violations_of(alloc, shader)?;
+    if has_error(&violations) {
+        return verdict(alloc, shader, &violations);
     }
     run_job_file(alloc, shader, job, shelf)
 }
 
-/// The report on a run by the job in a file.
+/// Runs a module without an error by the job in a file.
 fn run_job_file<H: Shelf>(
     alloc: Global,
     shader: &CoreModule,
@@ -64,13 +67,12 @@ fn run_job_file<H: Shelf>(
     shelf: &mut H,
 ) -> Result<Report, AllocError>
     requires { IsReady shader.now }
-    ensures answers { IfOk result (λ report. AnswersJob (H.texts shelf.old) (H.failed shelf.old) (H.failed shelf.new) shader.now job.now (answer_of report)) }
+    ensures outcome { (bytes : List ℕ) → Runs bytes shader.now → RunOutcome (shelf_change (H.texts shelf.old) (H.failed shelf.old) (H.failed shelf.new)) bytes job.now result }
     ensures texts { H.texts shelf.new ≡ H.texts shelf.old }
-    ensures names { (n : ℕ) × (H.failed shelf.new ≡ H.failed shelf.old ++ replicate n job.now) }
 {
     match read(alloc, job, MOST_BYTES, shelf)? {
         Some(bytes) => run_job(alloc, shader, &bytes),
-        None => fault(alloc, job),
+        None => unread(alloc, job),
     }
 }
 
@@ -86,7 +88,7 @@ fn inputs(alloc: Global) -> Inputs
     }
 }
 
-/// The report on a run by a job.
+/// Runs a module by the bytes of a job.
 fn run_job(alloc: Global, shader: &CoreModule, bytes: &[u8]) -> Result<Report, AllocError>
     requires { IsReady shader.now }
     ensures { IfOk result (λ report. IsRan shader.now bytes.now (answer_of report)) }
@@ -99,27 +101,28 @@ fn run_job(alloc: Global, shader: &CoreModule, bytes: &[u8]) -> Result<Report, A
     }
 }
 
+/// Says why a job is refused.
 fn refused_job(alloc: Global) -> Result<Report, AllocError>
     ensures { IfOk result (λ report. answer_of report ≡ refused_job_answer) }
 {
-    let text = String::from_str(alloc, "refused job / J1\n")?;
+    let text = job_refusal_text(alloc)?;
     Ok(Report {
-        status: 4,
+        status: Status::BAD_JOB,
         text: text.into_bytes(),
     })
 }
 
-fn status_of(end: RunEnd) -> u8
-    ensures { result ≡ run_status end }
+fn status_of(end: RunEnd) -> Status
+    ensures { result.0 ≡ run_status end }
 {
     match end {
-        RunEnd::Ended => 0,
-        RunEnd::Diverged(_, _) => 8,
-        RunEnd::Running => 9,
+        RunEnd::Ended => Status::ACCEPTED,
+        RunEnd::Diverged(_, _) => Status::DIVERGED,
+        RunEnd::Running => Status::SPENT,
     }
 }
 
-/// The report on a run of these steps.
+/// Runs these steps.
 fn run_steps(
     alloc: Global,
     shader: &CoreModule,

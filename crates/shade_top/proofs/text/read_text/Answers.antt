@@ -1,5 +1,5 @@
-use Rattle.shade_top.proofs.ReadingLaws.{lex_is}
+use Rattle.shade_top.proofs.ReadingLaws.{lex_reading}
 use Rattle.shade_top.proofs.text.read_text.Goals as goal
 
-pub returns-in_ok-lex_refusal-in-Err : goal.returns-in_ok-lex_refusal-in-Err
-returns-in_ok-lex_refusal-in-Err c = lex_is c.args.text.now _ c.in-Err.fault c.requires c.in-Err.ensures.fault c.in_ok-lex_refusal-in-Err.ensures
+pub returns-in-Err : goal.returns-in-Err
+returns-in-Err c = lex_reading c.args.text.now c.refused.result c.in-Err.fault c.lex_refusal.result c.lex_refusal.ensures c.requires c.in-Err.ensures.fault c.refused.ensures
