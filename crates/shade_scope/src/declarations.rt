@@ -27,11 +27,7 @@ fn add_member(names: &Names, member: &Member, out: &mut Items<Event>) -> Result<
     out.push(Event::Node(member.node))
 }
 
-fn add_members(
-    names: &Names,
-    members: &[Member],
-    out: &mut Items<Event>,
-) -> Result<(), AllocError>
+fn add_members(names: &Names, members: &[Member], out: &mut Items<Event>) -> Result<(), AllocError>
     ensures { OnOk result (out.new ≡ out.old ++ flat_map (member_uses names.now) members.now) }
 {
     for member in members {
@@ -198,11 +194,7 @@ pub fn declared_node(decl: &Decl) -> u32
     }
 }
 
-fn add_heading(
-    entry: bool,
-    name: Option<Named>,
-    out: &mut Items<Event>,
-) -> Result<(), AllocError>
+fn add_heading(entry: bool, name: Option<Named>, out: &mut Items<Event>) -> Result<(), AllocError>
     ensures { OnOk result (out.new ≡ out.old ++ heading entry name) }
 {
     match name {

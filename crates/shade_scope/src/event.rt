@@ -12,15 +12,9 @@ pub enum Event {
     /// The scope that began last ends.
     Closes,
     /// A declaration of a name, which is in force from here on; an entry is a function that a host starts.
-    Declares {
-        name: Named,
-        entry: bool,
-    },
+    Declares { name: Named, entry: bool },
     /// A use of a name, and whether it stands where something is called.
-    Uses {
-        name: Named,
-        called: bool,
-    },
+    Uses { name: Named, called: bool },
     /// What follows belongs to the module's declaration with this node.
     Enters(u32),
     /// A range of filters begins, with the severity that it gives violations, if any.

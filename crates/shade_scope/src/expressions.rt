@@ -41,10 +41,7 @@ fn look_up(role: Role, name: Named, out: &mut Items<Event>) -> Result<(), AllocE
             name,
             called: false,
         }),
-        Role::Called => out.push(Event::Uses {
-            name,
-            called: true,
-        }),
+        Role::Called => out.push(Event::Uses { name, called: true }),
     }
 }
 

@@ -89,11 +89,7 @@ pub fn filter_of(names: &Names, attr: &Attr) -> Option<Filter>
 }
 
 /// The filters among some attributes.
-pub fn filters_of(
-    alloc: Global,
-    names: &Names,
-    attrs: &[Attr],
-) -> Result<Items<Filter>, AllocError>
+pub fn filters_of(alloc: Global, names: &Names, attrs: &[Attr]) -> Result<Items<Filter>, AllocError>
     ensures { IfOk result (λ filters. filters ≡ filters_of names.now attrs.now) }
 {
     let mut filters = Items::new(alloc);

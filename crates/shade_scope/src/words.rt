@@ -21,9 +21,29 @@ fn is_type_word(text: &str) -> bool
     ensures { result ≡ is_word type_words text.now }
 {
     match text {
-        "bool" | "i32" | "u32" | "vec2" | "vec3" | "vec4" | "vec2i" | "vec3i" | "vec4i"
-        | "vec2u" | "vec3u" | "vec4u" | "array" | "atomic" | "ptr" | "function" | "private"
-        | "workgroup" | "uniform" | "storage" | "read" | "write" | "read_write" => true,
+        "bool"
+        | "i32"
+        | "u32"
+        | "vec2"
+        | "vec3"
+        | "vec4"
+        | "vec2i"
+        | "vec3i"
+        | "vec4i"
+        | "vec2u"
+        | "vec3u"
+        | "vec4u"
+        | "array"
+        | "atomic"
+        | "ptr"
+        | "function"
+        | "private"
+        | "workgroup"
+        | "uniform"
+        | "storage"
+        | "read"
+        | "write"
+        | "read_write" => true,
         _ => false,
     }
 }
