@@ -17,6 +17,3 @@ pub use stmt::{
     StmtKind, Update, Var, VarSpace,
 };
 pub use tree::{Decl, DeclKind, Directive, DirectiveKind, FnResult, Member, Rule, Tree};
-
-#[cfg(test)]
-mod tests;

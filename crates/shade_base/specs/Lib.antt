@@ -4,3 +4,4 @@ pub mod Sink
 pub mod MemoryShelf
 pub mod MemorySink
 pub mod Lines
+pub mod Decimals

@@ -1,6 +1,6 @@
-use Rattle.std.specs.Prelude.{◌≡◌, ℕ, ◌≤◌, List, ◌++◌, take, length, Result, Ok, Err, Option, OnErr}
+use Rattle.std.specs.Prelude.{◌≡◌, ℕ, ◌≤◌, List, ◌++◌, take, length, Result, Ok, Err, Option}
 use Rattle.std.specs.Option.{option_map}
-use Rattle.shade_base.specs.Counter.{Rose}
+use Rattle.shade_base.specs.Counter.{one_more}
 
 -- what was taken, if that is told, with these bytes at its end
 abbrev pub with_piece : Option (List ℕ) → List ℕ → Option (List ℕ)
@@ -11,7 +11,7 @@ abbrev pub Takes : {T E : Type 0} → Option (List ℕ) → List ℕ → Option 
 Takes before piece now (Ok _) = now ≡ with_piece before piece
 Takes before piece now (Err _) = (n : ℕ) × (n ≤ length piece) × (now ≡ with_piece before (take n piece))
 
--- The count of faults did not fall, and rose where the call failed.
-pub record IsCountedOnErr {T E : Type 0} (before now : ℕ) (result : Result T E) : Type 0 where
-  pub later : before ≤ now
-  pub rose : OnErr result (Rose before now)
+-- A write that failed is counted once, and one that succeeded is not.
+abbrev pub IsCountedOnErr : {T E : Type 0} → ℕ → ℕ → Result T E → Type 0
+IsCountedOnErr before now (Ok _) = now ≡ before
+IsCountedOnErr before now (Err _) = now ≡ one_more before

@@ -1,7 +1,8 @@
-//! What every part of the checker speaks of: places in a text, severities and the program's status; and what it reads
-//! from and writes to, a shelf of named texts and a sink of bytes, each with a count of its faults.
+//! What every part of the checker speaks of: places in a text, decimal numbers, severities and the program's status; and what
+//! it reads from and writes to, a shelf of named texts and a sink of bytes, each with a count of its faults.
 #![tactic(auto)]
 
+mod decimal;
 mod lines;
 mod memory_shelf;
 mod memory_sink;
@@ -12,6 +13,7 @@ mod shelf;
 mod sink;
 mod status;
 
+pub use decimal::decimal_value;
 pub use lines::{place_after, place_at};
 pub use memory_shelf::MemoryShelf;
 pub use memory_sink::MemorySink;
@@ -21,6 +23,3 @@ pub use severity::Severity;
 pub use shelf::{Shelf, ShelfRefusal};
 pub use sink::{Failed, Sink};
 pub use status::Status;
-
-#[cfg(test)]
-mod tests;

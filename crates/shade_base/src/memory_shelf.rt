@@ -66,7 +66,6 @@ impl Shelf for MemoryShelf {
         requires { limit < usize.MAX }
         ensures texts { Some (text_of self.new.texts) ≡ Some (text_of self.old.texts) }
         ensures bytes { IfOk result (λ bytes. front_of (text_of self.old.texts) name.now limit ≡ Some bytes.items) }
-        ensures kept { IsErrOf result NoMemory → self.new.failed ≡ self.old.failed }
         ensures cause { IsFailedBy name.now self.old.failed self.new.failed result }
         ensures served { IfOk result (λ bytes. read_of self.old name.now limit ≡ Some bytes.items) }
         ensures after_read { OnOk result (self.new ≡ after_read self.old) }
@@ -86,7 +85,7 @@ impl Shelf for MemoryShelf {
                 Ok(bytes)
             }
             _ => {
-                let _ = self.failed.push(kept);
+                self.failed.push_reserved(kept);
                 self.calls = self.calls.saturating_add(1);
                 Err(ShelfRefusal::Failed)
             }

@@ -1,5 +1,5 @@
 // The files and the standard output of the process. They tell nothing of content.
-ghost use Rattle.std.specs.Prelude.{◌≡◌, ℕ, ◌+◌, ◌<◌, ◌≤◌, [], ◌∷◌, ◌++◌, None, map, take, length, vec_len, IfOk, OnOk, OnErr, IfSome, IsErrOf};
+ghost use Rattle.std.specs.Prelude.{◌≡◌, ℕ, ◌+◌, ◌<◌, ◌≤◌, [], None, map, take, length, vec_len, IfOk, OnOk, OnErr, IfSome};
 ghost use Rattle.std.specs.String.{string_bytes};
 ghost use Rattle.std.specs.Io.KnownBytes.{Appends};
 
@@ -66,7 +66,6 @@ fn read_file<R: Files>(
 
 impl<R: Files + Drop> Shelf for FileShelf<R> {
     ghost use Rattle.shade_base.specs.Shelf.{IsFailedBy};
-    ghost use Rattle.shade_base.specs.declared.shelf.ShelfRefusal.TheVariants.{NoMemory, Failed as ReadFailed};
 
     ghost texts = { λ s. None };
 
@@ -76,11 +75,7 @@ impl<R: Files + Drop> Shelf for FileShelf<R> {
     fn read(&mut self, alloc: Global, name: &str, limit: usize) -> Result<Vec<u8>, ShelfRefusal>
         requires { limit < usize.MAX }
         ensures len { IfOk result (λ bytes. vec_len bytes ≤ limit + 1) }
-        ensures kept { IsErrOf result NoMemory → map (λ name. string_bytes name) self.new.failed.items ≡ map (λ name. string_bytes name) self.old.failed.items }
         ensures cause { IsFailedBy name.now (map (λ name. string_bytes name) self.old.failed.items) (map (λ name. string_bytes name) self.new.failed.items) result }
-        ensures added { IsErrOf result ReadFailed → map (λ name. string_bytes name) self.new.failed.items ≡ map (λ name. string_bytes name) self.old.failed.items ++ name.now ∷ [] }
-        ensures ok { OnOk result (self.new.failed.items ≡ self.old.failed.items) }
-        ensures unchanged { IsErrOf result NoMemory → self.new.failed.items ≡ self.old.failed.items }
     {
         // The place for the name comes first, so that a failure can be kept.
         self.failed.reserve(1)?;
@@ -89,7 +84,7 @@ impl<R: Files + Drop> Shelf for FileShelf<R> {
             Ok(bytes) => Ok(bytes),
             Err(ShelfRefusal::NoMemory) => Err(ShelfRefusal::NoMemory),
             Err(ShelfRefusal::Failed) => {
-                let _ = self.failed.push(kept);
+                self.failed.push_reserved(kept);
                 Err(ShelfRefusal::Failed)
             }
         }
@@ -129,8 +124,6 @@ fn write_whole<W: Write>(writer: &mut W, bytes: &[u8]) -> Result<(), Failed>
 }
 
 impl<W: Write + Drop> Sink for StdSink<W> {
-    ghost use Rattle.std.specs.Prelude.{is_ok, if◌then◌else◌};
-    ghost use Rattle.shade_base.specs.Counter.{one_more};
     ghost use Rattle.shade_base.specs.Sink.{Takes, IsCountedOnErr};
 
     ghost taken = { λ s. None };
@@ -141,7 +134,6 @@ impl<W: Write + Drop> Sink for StdSink<W> {
     fn write(&mut self, bytes: &[u8]) -> Result<(), Failed>
         requires { 1 ≤ length bytes.now }
         ensures cause { IsCountedOnErr self.old.faults self.new.faults result }
-        ensures faults { self.new.faults ≡ (if is_ok result then self.old.faults else one_more self.old.faults) }
         ensures bytes { Takes None bytes.now None result }
         ensures ok { OnOk result (Appends (W.contents self.old.writer) (W.contents self.new.writer) bytes.now) }
         ensures err { OnErr result ((n : ℕ) × (n ≤ length bytes.now) × Appends (W.contents self.old.writer) (W.contents self.new.writer) (take n bytes.now)) }

@@ -1,5 +1,5 @@
 // Named texts.
-ghost use Rattle.std.specs.Prelude.{◌≡◌, ℕ, ◌<◌, List, Option, Some, IfOk, IfSome, IsErrOf};
+ghost use Rattle.std.specs.Prelude.{◌≡◌, ℕ, ◌<◌, List, Option, Some, IfOk, IfSome};
 ghost use Rattle.shade_base.specs.declared.shelf.ShelfRefusal.TheVariants.{NoMemory};
 ghost use Rattle.shade_base.specs.Shelf.{IsFailedBy, front_of};
 
@@ -30,13 +30,12 @@ pub trait Shelf {
     /// The names whose reads failed, the latest last. How often a name stands here is its count of faults.
     ghost failed: { Self → List (List ℕ) };
 
-    /// The first bytes of the named text: all of them, or one more than `limit` where it has as many.
-    /// `Failed` comes only where the read of this name failed, which its count of faults then shows.
-    /// `NoMemory` leaves the failed names as they were. Reading changes no text, and takes memory for the bytes and for the name.
+    /// Reads the first bytes of the named text: all of them, or one more than `limit` where it has as many.
+    /// `Failed` comes where the read of this name failed, and adds the name once to the failed names; any other answer leaves
+    /// them. Reading changes no text, and takes memory for the bytes and for the name.
     fn read(&mut self, alloc: Global, name: &str, limit: usize) -> Result<Vec<u8>, ShelfRefusal>
         requires { limit < usize.MAX }
         ensures texts { texts self.new ≡ texts self.old }
         ensures bytes { IfOk result (λ bytes. IfSome (texts self.old) (λ texts. front_of texts name.now limit ≡ Some bytes.items)) }
-        ensures cause { IsFailedBy name.now (failed self.old) (failed self.new) result }
-        ensures kept { IsErrOf result NoMemory → failed self.new ≡ failed self.old };
+        ensures cause { IsFailedBy name.now (failed self.old) (failed self.new) result };
 }

@@ -15,7 +15,7 @@ pub trait Sink {
     ghost faults: { Self → ℕ };
 
     /// Takes the bytes, of which there is at least one. A write that fails has taken a beginning of them, maybe none,
-    /// and raised the count of faults, which never falls. Where the count stands at its end, it stays there.
+    /// and raised the count of faults by one; one that succeeds leaves the count. Where the count stands at its end, it stays there.
     fn write(&mut self, bytes: &[u8]) -> Result<(), Failed>
         requires { 1 ≤ length bytes.now }
         ensures bytes { Takes (taken self.old) bytes.now (taken self.new) result }

@@ -4,7 +4,6 @@ pub mod Counts
 pub mod Errors
 pub mod LexLaws
 pub mod Lowered
-pub mod Numbers
 pub mod Once
 pub mod Printing
 pub mod Prints

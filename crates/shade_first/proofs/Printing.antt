@@ -14,7 +14,7 @@ use Rattle.shade_first.specs.declared.token.Kind.TheVariants as kind
 use Rattle.shade_first.specs.declared.lex.Front.{Front}
 use Rattle.shade_first.specs.declared.lex.Front.TheVariants as front
 use Rattle.shade_first.specs.Tokens.{is_letter, is_digit, goes_on, is_blank, number_size, mark_front, front_of, size_of}
-use Rattle.shade_first.proofs.Numbers.{digits_all, not_empty}
+use Rattle.shade_base.proofs.Numbers.{digits_all, not_empty}
 
 abbrev pub mark_byte : Mark → ℕ
 mark_byte At = 64

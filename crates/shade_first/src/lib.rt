@@ -23,7 +23,6 @@ use crate::phrase::SyntaxFault;
 use crate::token::Token;
 use crate::tree::FirstShader;
 pub use laws::{beginnings_are_texts, few_statements, never_both, one_module, one_place};
-pub use number::decimal_value;
 use shade_core::CoreModule;
 use std::alloc::Global;
 
@@ -84,6 +83,3 @@ fn offset_at(tokens: &[Token], at: usize, stop: u32) -> u32
         None => stop,
     }
 }
-
-#[cfg(test)]
-mod tests;

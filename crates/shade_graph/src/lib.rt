@@ -10,6 +10,3 @@ mod order;
 
 pub use graph::{FnGraph, graph_of};
 pub use node::{Node, Tag, Via};
-
-#[cfg(test)]
-mod tests;

@@ -9,8 +9,6 @@ mod group;
 mod lanes;
 mod runnable;
 mod steps;
-#[cfg(test)]
-mod tests;
 mod workgroup;
 
 pub use event::{Epochs, GroupEvent, RunEnd};

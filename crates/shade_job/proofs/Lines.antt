@@ -1,5 +1,5 @@
 -- The first line of some bytes.
-use Rattle.std.proofs.Common.{◌≡◌, refl, sym, ap, ◌∙◌, subst, ℕ, zero, suc, ◌+◌, ◌<◌, ◌≤◌, ◌^◌, ◌==◌, Bool, true, false, ◌&&◌, cond, nat_lt, List, [], ◌∷◌, ◌++◌, length, take, drop, drop-cons, add-one, get_or, Some, None, arith, rules, ◌*◌, ◌-◌}
+use Rattle.std.proofs.Common.{◌≡◌, refl, sym, ap, ◌∙◌, subst, ℕ, zero, suc, ◌+◌, ◌<◌, ◌≤◌, ◌^◌, ◌==◌, Bool, true, false, ◌&&◌, cond, nat_lt, List, [], ◌∷◌, ◌++◌, length, take, drop, drop-cons, add-one, get_or, Some, None, arith}
 use Rattle.std.specs.List.{position, position_or_len}
 use Rattle.std.specs.Char.{is_ascii_digit}
 use Rattle.std.specs.Str.{all_ascii_digits}
@@ -8,18 +8,11 @@ use Rattle.std.proofs.lemmas.List.{append_assoc, take-append-drop, length-append
 use Rattle.std.proofs.lemmas.List.Quantifiers.{position-Some}
 use Rattle.std.proofs.lemmas.List.Sums.{position_or_len_is}
 use Rattle.std.proofs.lemmas.Bool.Decides.{nat_tests}
-use Rattle.std.proofs.lemmas.Fmt.{decimal_injective, digits_decimal}
+use Rattle.std.proofs.lemmas.Fmt.{decimal_injective}
 use Rattle.std.proofs.Math.Seq.{get_or-append_seam, take-append_seam}
-use Rattle.std.proofs.lemmas.Str.Parse.{IsNumeralModel, numerals_by_fold}
 use Rattle.std.proofs.lemmas.Grind.{flat_map-append}
+use Rattle.shade_base.proofs.Numbers.{digits_all}
 use Rattle.shade_job.specs.Steps.{line, lines, AllBelow, States}
-
-abbrev read_on : ℕ → List ℕ → ℕ
-read_on n [] = n
-read_on n (c ∷ cs) = read_on (n * 10 + (c - 48)) cs
-
-own : IsNumeralModel (λ ds. all_ascii_digits ds ≡ true) (read_on 0)
-own = numerals_by_fold _ (search rules) read_on (search rules)
 
 abbrev is_break : ℕ → Bool
 is_break b = b == 10
@@ -50,7 +43,7 @@ module _ (n : ℕ) (text rest : List ℕ) (small : n < 2 ^ 32) (is : text ≡ li
 
   free : (k : ℕ) → k < length (decimal n) → is_break (get_or text k 0) ≡ false
   free k below =
-      ap (λ xs. is_break (get_or xs k 0)) spelled ∙ (ap is_break (get_or_append_left (decimal n) (10 ∷ rest) 0 k below) ∙ digits_free (decimal n) k (digits_decimal own n (omega arith)) below)
+      ap (λ xs. is_break (get_or xs k 0)) spelled ∙ (ap is_break (get_or_append_left (decimal n) (10 ∷ rest) 0 k below) ∙ digits_free (decimal n) k (digits_all n (decimal n) small refl) below)
 
   break_ : is_break (get_or text (length (decimal n)) 0) ≡ true
   break_ = ap (λ xs. is_break (get_or xs (length (decimal n)) 0)) spelled ∙ ap is_break (get_or-append_seam (decimal n) 10 rest 0)

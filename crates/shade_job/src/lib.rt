@@ -9,7 +9,7 @@ ghost use Rattle.shade_job.specs.Steps.{States, line, lines};
 ghost use Rattle.shade_job.specs.Faults.{Faults};
 ghost use Rattle.shade_job.specs.Laws.{OneJob};
 
-use shade_first::decimal_value;
+use shade_base::decimal_value;
 use std::alloc::{AllocError, Global};
 
 /// The greatest number of bytes of a job.
@@ -111,32 +111,3 @@ pub fn read_steps(alloc: Global, bytes: &[u8], lanes: u32) -> Result<Vec<u32>, J
 pub fn one_job()
     ensures { OneJob }
 {}
-
-#[cfg(test)]
-mod tests {
-    use super::*;
-    use std::test::Fail;
-
-    #[test]
-    fn steps_of_three_lanes(rt: HostRuntime) -> Result<(), Fail> {
-        let alloc = rt.alloc();
-        let rows: [(&[u8], Option<&[u32]>); 8] = [
-            (b"", Some(&[])),
-            (b"0\n2\n1\n", Some(&[0, 2, 1])),
-            (b"3\n", None),
-            (b"00\n", None),
-            (b"1", None),
-            (b"1\n\n", None),
-            (b"1\r\n", None),
-            (b"4294967296\n", None),
-        ];
-        for (bytes, want) in rows {
-            match (read_steps(alloc, bytes, 3), want) {
-                (Ok(steps), Some(want)) => assert_eq!(rt; steps.as_slice(), want),
-                (Err(fault), None) => assert_eq!(rt; fault, JobFault::Form),
-                _ => assert!(rt; false),
-            }
-        }
-        Ok(())
-    }
-}

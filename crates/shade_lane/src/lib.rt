@@ -8,8 +8,6 @@ mod cases;
 mod lane;
 mod rest;
 mod state;
-#[cfg(test)]
-mod tests;
 mod values;
 
 pub use builtins::Builtins;

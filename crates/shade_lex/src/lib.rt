@@ -16,8 +16,6 @@ mod token;
 
 pub use fault::LexFault;
 pub use lexer::{Tokens, lex};
+pub use piece::Problem;
 pub use template::{TemplatePairs, templates};
 pub use token::{Suffix, Token, TokenKind};
-
-#[cfg(test)]
-mod tests;

@@ -3,8 +3,6 @@
 
 mod inputs;
 mod memory;
-#[cfg(test)]
-mod tests;
 
 pub use inputs::{Inputs, RootWords, Words};
 pub use memory::Memory;

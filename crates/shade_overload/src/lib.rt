@@ -10,8 +10,6 @@ pub mod overload;
 pub mod params;
 mod pattern;
 mod rows;
-#[cfg(test)]
-mod tests;
 mod vector;
 
 pub use builtin::Builtin;

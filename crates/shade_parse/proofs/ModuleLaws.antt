@@ -16,7 +16,7 @@ use Rattle.shade_ast.proofs.PlaceLaws.{stop_of_reads, stop_of_fails, none_of_all
 use Rattle.shade_ast.proofs.Placed.{some_name}
 use Rattle.shade_parse.specs.Rests.{DirectiveAt}
 use Rattle.shade_parse.specs.Wholes.{BeginsDirective, DirectiveStands}
-use Rattle.shade_parse.proofs.Steps.{Stops, reached, nothing_read, fails_later, end_stops, ended}
+use Rattle.shade_parse_simple.proofs.Steps.{Stops, reached, nothing_read, fails_later, end_stops, ended}
 use Rattle.shade_parse.proofs.Runs.{Run, run_begin, run_stops, run_ends, run_more, run_fails}
 use Rattle.shade_parse.proofs.DirectiveLaws.{directive_there}
 use Rattle.shade_parse.proofs.DeclarationLaws.{decl_first, decl_no_directive}

@@ -24,10 +24,8 @@ use Rattle.shade_cursor.specs.declared.fault.SyntaxFault.{SyntaxFault}
 use Rattle.shade_cursor.specs.TokenPlaces.{fault_of}
 use Rattle.shade_cursor.specs.Shown.{lexeme, lexemes}
 use Rattle.shade_cursor.specs.Passes.{IsFirst}
-use Rattle.shade_cursor.specs.Depths.{IsDeep}
 use Rattle.shade_cursor.proofs.PassLaws.{take_range}
-use Rattle.shade_parse.specs.Nesting.{IsNested}
-use Rattle.shade_parse.specs.Answers.{PassesDepth, IsTree, IsUnexpected, IsTooDeep, IsFault}
+use Rattle.shade_parse.specs.Answers.{PassesDepth, IsTree, IsFault}
 use Rattle.shade_parse.specs.Wholes.{Refused}
 use Rattle.shade_parse.specs.Cuts.{IsWhole, IsRefused, cut_of, uncut_of, earlier_of}
 

@@ -1,5 +1,5 @@
 -- What is answered of the tokens of a text: the tree that they spell, or why they are refused.
-use Rattle.std.specs.Prelude.{◌≡◌, ℕ, ◌+◌, ◌<◌, ◌≤◌, ◌⊎◌, List, [], length, slice_range}
+use Rattle.std.specs.Prelude.{ℕ, ◌+◌, ◌<◌, ◌≤◌, ◌⊎◌, List, [], length, slice_range}
 use Rattle.shade_lex.specs.declared.token.Token.{Token}
 use Rattle.shade_ast.specs.declared.tree.Tree.{Tree}
 use Rattle.shade_ast.specs.Lexemes.{Lexeme}

@@ -1,5 +1,5 @@
 -- What is answered where depths are not counted, and what an answer of some tokens says of more.
-use Rattle.std.specs.Prelude.{ℕ, ◌≤◌, leb, cond, List, [], length, Option, None, Some, Result, Ok, Err}
+use Rattle.std.specs.Prelude.{ℕ, ◌≤◌, leb, cond, List, length, Option, None, Some, Result, Ok, Err}
 use Rattle.shade_ast.specs.declared.tree.Tree.{Tree}
 use Rattle.shade_ast.specs.Lexemes.{Lexeme}
 use Rattle.shade_ast.specs.Shaped.{tree_shape}

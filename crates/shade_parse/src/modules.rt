@@ -11,10 +11,10 @@ ghost use Rattle.shade_cursor.specs.Shown.{lexemes};
 
 use crate::declarations::declaration;
 use crate::directives::directive;
-use crate::items::push;
 use shade_ast::{Keyword, Names, Tree};
 use shade_cursor::part::Fault;
 use shade_cursor::piece::{Piece, key_at};
+use shade_parse_simple::items::push;
 use sqlite_items::Items;
 use std::alloc::Global;
 

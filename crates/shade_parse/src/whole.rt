@@ -10,13 +10,13 @@ ghost use Rattle.shade_cursor.specs.Shown.{lexemes};
 use crate::modules;
 use crate::nesting::first_nested;
 use shade_ast::Tree;
-use shade_lex::{TemplatePairs, Tokens};
-use shade_parse_expr::SyntaxFault;
 use shade_cursor::depths::first_deep;
 use shade_cursor::fault::{Refusal, fault_of};
 use shade_cursor::part::Fault;
 use shade_cursor::piece::Piece;
 use shade_cursor::pieces::pieces_of;
+use shade_lex::{TemplatePairs, Tokens};
+use shade_parse_expr::SyntaxFault;
 use std::alloc::{AllocError, Global};
 
 /// The tree that the tokens of a text spell, with its nodes numbered in postorder from 0.

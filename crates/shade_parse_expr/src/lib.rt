@@ -9,6 +9,3 @@ pub mod parse;
 pub use answer::expression;
 pub use goal::Goal;
 pub use shade_cursor::SyntaxFault;
-
-#[cfg(test)]
-mod tests;

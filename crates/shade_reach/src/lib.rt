@@ -159,6 +159,3 @@ fn is_at(distances: &[Option<u32>], node: u32, distance: u32) -> bool
 {
     distances[node as usize] == Some(distance)
 }
-
-#[cfg(test)]
-mod tests;

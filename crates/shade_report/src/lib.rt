@@ -13,6 +13,3 @@ mod source;
 pub use check_report::{check_text, count_with};
 pub use instance::frames_are_read;
 pub use run_report::run_text;
-
-#[cfg(test)]
-mod tests;

@@ -11,8 +11,6 @@ mod operations;
 mod parts;
 mod scalars;
 pub mod table;
-#[cfg(test)]
-mod tests;
 pub mod touch;
 pub mod types;
 pub mod value;

@@ -10,6 +10,3 @@ mod violation;
 pub use law::violations_are_one_list;
 pub use verdict::violations_of;
 pub use violation::{NodePath, PathStep, Violation};
-
-#[cfg(test)]
-mod tests;
