@@ -78,7 +78,3 @@ if_ok (Err f) P Q h k = search rules
 pub if_built : {T : Type 0} (r : Result T Fault) (q : T) (P : T → Type 0) (E : Fault → Type 0) → MatchResult r (λ p. p ≡ q) E → P q → IfOk r P
 if_built (Ok x) q P E same p = subst P (sym same) p
 if_built (Err f) q P E same p = search rules
-
-pub err_ok : {T : Type 0} (r : Result T Fault) (P : T → Type 0) (Q : Fault → Type 0) → IsErrAnd r Q → IfOk r P
-err_ok (Ok x) P Q k = absurd k
-err_ok (Err f) P Q k = search rules

@@ -1,6 +1,5 @@
 -- What is answered of the tokens of a text, from one of them on: the phrase of a goal that they spell, or why they spell none.
-use Rattle.std.specs.Prelude.{◌≡◌, ℕ, ◌+◌, ◌<◌, ◌≤◌, List, [], length, slice_range}
-use Rattle.shade_base.specs.declared.place.Place.{Place}
+use Rattle.std.specs.Prelude.{ℕ, ◌+◌, ◌<◌, ◌≤◌, List, [], length, slice_range}
 use Rattle.shade_lex.specs.declared.token.Token.{Token}
 use Rattle.shade_ast.specs.declared.expr.Expr.{Expr}
 use Rattle.shade_ast.specs.Lexemes.{Lexeme}

@@ -15,7 +15,7 @@ use Rattle.shade_parse_expr.proofs.Prefixes.{free_fails, free_reads, left_by, le
 use Rattle.shade_parse_expr.proofs.Readings.{builds, goes_as, goes_on, leaf_tree, prefix_tree}
 use Rattle.shade_cursor.proofs.Tokens.{shown_within, told_none, told_some}
 use Rattle.shade_parse_expr.proofs.Trees.{leaf_name, tree_of}
-use Rattle.shade_parse_expr.proofs.Turns.{err_ok, errs, fails_here, fault_on, if_built, if_ok, no_memory}
+use Rattle.shade_parse_expr.proofs.Turns.{errs, fails_here, fault_on, if_built, if_ok, no_memory}
 use Rattle.shade_cursor.specs.Operators.{left_prefix_of}
 use Rattle.shade_cursor.specs.Shown.{lexeme, lexemes}
 use Rattle.std.proofs.lemmas.List.{length-map}
@@ -154,66 +154,6 @@ left_singular-returns-clause-node t c = if_ok c.accesses.result _ _ c.accesses.e
 
 pub left_singular-returns-clause-names : goal.left_singular-returns-clause-names
 left_singular-returns-clause-names t c = if_ok c.accesses.result _ _ c.accesses.ensures.names (λ p le. omega (arith, le, c.in_ok-whole.ensures.further, c.in_ok-whole.ensures.within, c.in_ok-whole.ensures.node, c.in_ok-whole.ensures.names))
-
-pub left_side-returns-in_err-operand-clause-further : goal.left_side-returns-in_err-operand-clause-further
-left_side-returns-in_err-operand-clause-further t c = err_ok c.from_residual.result _ _ c.from_residual.ensures.1
-
-pub left_side-returns-in_err-operand-clause-within : goal.left_side-returns-in_err-operand-clause-within
-left_side-returns-in_err-operand-clause-within t c = err_ok c.from_residual.result _ _ c.from_residual.ensures.1
-
-pub left_side-returns-in_err-operand-clause-node : goal.left_side-returns-in_err-operand-clause-node
-left_side-returns-in_err-operand-clause-node t c = err_ok c.from_residual.result _ _ c.from_residual.ensures.1
-
-pub left_side-returns-in_err-operand-clause-names : goal.left_side-returns-in_err-operand-clause-names
-left_side-returns-in_err-operand-clause-names t c = err_ok c.from_residual.result _ _ c.from_residual.ensures.1
-
-pub left_singular-returns-in_err-whole-clause-further : goal.left_singular-returns-in_err-whole-clause-further
-left_singular-returns-in_err-whole-clause-further t c = err_ok c.from_residual.result _ _ c.from_residual.ensures.1
-
-pub left_singular-returns-in_err-whole-clause-within : goal.left_singular-returns-in_err-whole-clause-within
-left_singular-returns-in_err-whole-clause-within t c = err_ok c.from_residual.result _ _ c.from_residual.ensures.1
-
-pub left_singular-returns-in_err-whole-clause-node : goal.left_singular-returns-in_err-whole-clause-node
-left_singular-returns-in_err-whole-clause-node t c = err_ok c.from_residual.result _ _ c.from_residual.ensures.1
-
-pub left_singular-returns-in_err-whole-clause-names : goal.left_singular-returns-in_err-whole-clause-names
-left_singular-returns-in_err-whole-clause-names t c = err_ok c.from_residual.result _ _ c.from_residual.ensures.1
-
-pub left_first-returns-in_err-name-clause-further : goal.left_first-returns-in_err-name-clause-further
-left_first-returns-in_err-name-clause-further t c = err_ok c.from_residual.result _ _ c.from_residual.ensures.1
-
-pub left_first-returns-in_err-name-clause-within : goal.left_first-returns-in_err-name-clause-within
-left_first-returns-in_err-name-clause-within t c = err_ok c.from_residual.result _ _ c.from_residual.ensures.1
-
-pub left_first-returns-in_err-name-clause-node : goal.left_first-returns-in_err-name-clause-node
-left_first-returns-in_err-name-clause-node t c = err_ok c.from_residual.result _ _ c.from_residual.ensures.1
-
-pub left_first-returns-in_err-name-clause-names : goal.left_first-returns-in_err-name-clause-names
-left_first-returns-in_err-name-clause-names t c = err_ok c.from_residual.result _ _ c.from_residual.ensures.1
-
-pub left_first-returns-in_err-inner-clause-further : goal.left_first-returns-in_err-inner-clause-further
-left_first-returns-in_err-inner-clause-further t c = err_ok c.from_residual-in_err-inner.result _ _ c.from_residual-in_err-inner.ensures.1
-
-pub left_first-returns-in_err-inner-clause-within : goal.left_first-returns-in_err-inner-clause-within
-left_first-returns-in_err-inner-clause-within t c = err_ok c.from_residual-in_err-inner.result _ _ c.from_residual-in_err-inner.ensures.1
-
-pub left_first-returns-in_err-inner-clause-node : goal.left_first-returns-in_err-inner-clause-node
-left_first-returns-in_err-inner-clause-node t c = err_ok c.from_residual-in_err-inner.result _ _ c.from_residual-in_err-inner.ensures.1
-
-pub left_first-returns-in_err-inner-clause-names : goal.left_first-returns-in_err-inner-clause-names
-left_first-returns-in_err-inner-clause-names t c = err_ok c.from_residual-in_err-inner.result _ _ c.from_residual-in_err-inner.ensures.1
-
-pub left_first-returns-then-is_none-clause-further : goal.left_first-returns-then-is_none-clause-further
-left_first-returns-then-is_none-clause-further t c = err_ok c.refuse.result _ _ c.refuse.ensures
-
-pub left_first-returns-then-is_none-clause-within : goal.left_first-returns-then-is_none-clause-within
-left_first-returns-then-is_none-clause-within t c = err_ok c.refuse.result _ _ c.refuse.ensures
-
-pub left_first-returns-then-is_none-clause-node : goal.left_first-returns-then-is_none-clause-node
-left_first-returns-then-is_none-clause-node t c = err_ok c.refuse.result _ _ c.refuse.ensures
-
-pub left_first-returns-then-is_none-clause-names : goal.left_first-returns-then-is_none-clause-names
-left_first-returns-then-is_none-clause-names t c = err_ok c.refuse.result _ _ c.refuse.ensures
 
 pub left_singular-returns-clause-grows : goal.left_singular-returns-clause-grows
 left_singular-returns-clause-grows t c = grows_trans _ _ _ c.in_ok-whole.ensures.grows c.accesses.ensures.grows

@@ -6,7 +6,7 @@ use Rattle.shade_parse_expr.proofs.Accesses.{by_name_tree}
 use Rattle.shade_parse_expr.proofs.Primaries.{by_name_fails}
 use Rattle.shade_parse_expr.proofs.Readings.{builds}
 use Rattle.shade_cursor.proofs.Tokens.{shown_within}
-use Rattle.shade_parse_expr.proofs.Turns.{err_ok, errs, fails_here, if_built, no_memory}
+use Rattle.shade_parse_expr.proofs.Turns.{errs, fails_here, if_built, no_memory}
 use Rattle.shade_cursor.specs.Shown.{lexeme, lexemes}
 use Rattle.std.proofs.lemmas.List.{length-map}
 use Rattle.shade_cursor.specs.declared.part.Fault.TheVariants as fault
@@ -47,27 +47,3 @@ returns-clause-node c = if_built c.member.result _ _ _ c.member.ensures (omega (
 
 pub returns-clause-names : goal.returns-clause-names
 returns-clause-names c = if_built c.member.result _ _ _ c.member.ensures (omega (arith, c.in-Some.ensures.within, c.number.ensures.few))
-
-pub returns-in_default-clause-further : goal.returns-in_default-clause-further
-returns-in_default-clause-further c = err_ok c.refuse.result _ _ c.refuse.ensures
-
-pub returns-in_default-clause-within : goal.returns-in_default-clause-within
-returns-in_default-clause-within c = err_ok c.refuse.result _ _ c.refuse.ensures
-
-pub returns-in_default-clause-node : goal.returns-in_default-clause-node
-returns-in_default-clause-node c = err_ok c.refuse.result _ _ c.refuse.ensures
-
-pub returns-in_default-clause-names : goal.returns-in_default-clause-names
-returns-in_default-clause-names c = err_ok c.refuse.result _ _ c.refuse.ensures
-
-pub returns-in-Err-clause-further : goal.returns-in-Err-clause-further
-returns-in-Err-clause-further c = err_ok c.refuse-in-Err.result _ _ c.refuse-in-Err.ensures
-
-pub returns-in-Err-clause-within : goal.returns-in-Err-clause-within
-returns-in-Err-clause-within c = err_ok c.refuse-in-Err.result _ _ c.refuse-in-Err.ensures
-
-pub returns-in-Err-clause-node : goal.returns-in-Err-clause-node
-returns-in-Err-clause-node c = err_ok c.refuse-in-Err.result _ _ c.refuse-in-Err.ensures
-
-pub returns-in-Err-clause-names : goal.returns-in-Err-clause-names
-returns-in-Err-clause-names c = err_ok c.refuse-in-Err.result _ _ c.refuse-in-Err.ensures

@@ -7,7 +7,7 @@ use Rattle.shade_base.specs.declared.place.Place.{Place}
 use Rattle.shade_parse_expr.proofs.Primaries.{call_fails, call_reads, call_stuck, call_type_fails}
 use Rattle.shade_parse_expr.proofs.Readings.{goes_on}
 use Rattle.shade_cursor.proofs.Tokens.{shown_within, told_none, told_some}
-use Rattle.shade_parse_expr.proofs.Turns.{err_ok, errs, fails_here, fault_on, if_ok}
+use Rattle.shade_parse_expr.proofs.Turns.{errs, fails_here, fault_on, if_ok}
 use Rattle.shade_parse_expr.specs.Rests.{Called}
 use Rattle.shade_cursor.specs.Shown.{lexeme, lexemes}
 use Rattle.std.proofs.lemmas.List.{length-map}
@@ -55,30 +55,6 @@ pub called-requires-clause-within : goal.called-requires-clause-within
 called-requires-clause-within c =
     let tokens = lexemes c.args.pieces.now in
     let m : (q : Place) × (slice_get tokens c.in_ok-callee.callee.end ≡ Some (Mark sign.Open q)) = told_some _ _ _ c.if-is_none.ensures c.mark_at.ensures.value in omega (arith, slice_get_within tokens c.in_ok-callee.callee.end _ m.1, length-map c.args.pieces.now lexeme)
-
-pub returns-in_err-callee-clause-further : goal.returns-in_err-callee-clause-further
-returns-in_err-callee-clause-further c = err_ok c.from_residual.result _ _ c.from_residual.ensures.1
-
-pub returns-in_err-callee-clause-within : goal.returns-in_err-callee-clause-within
-returns-in_err-callee-clause-within c = err_ok c.from_residual.result _ _ c.from_residual.ensures.1
-
-pub returns-in_err-callee-clause-node : goal.returns-in_err-callee-clause-node
-returns-in_err-callee-clause-node c = err_ok c.from_residual.result _ _ c.from_residual.ensures.1
-
-pub returns-in_err-callee-clause-names : goal.returns-in_err-callee-clause-names
-returns-in_err-callee-clause-names c = err_ok c.from_residual.result _ _ c.from_residual.ensures.1
-
-pub returns-then-is_none-clause-further : goal.returns-then-is_none-clause-further
-returns-then-is_none-clause-further c = err_ok c.refuse.result _ _ c.refuse.ensures
-
-pub returns-then-is_none-clause-within : goal.returns-then-is_none-clause-within
-returns-then-is_none-clause-within c = err_ok c.refuse.result _ _ c.refuse.ensures
-
-pub returns-then-is_none-clause-node : goal.returns-then-is_none-clause-node
-returns-then-is_none-clause-node c = err_ok c.refuse.result _ _ c.refuse.ensures
-
-pub returns-then-is_none-clause-names : goal.returns-then-is_none-clause-names
-returns-then-is_none-clause-names c = err_ok c.refuse.result _ _ c.refuse.ensures
 
 pub returns-clause-grows : goal.returns-clause-grows
 returns-clause-grows c = grows_trans _ _ _ c.in_ok-callee.ensures.grows c.called.ensures.grows
