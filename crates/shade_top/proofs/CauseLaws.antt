@@ -65,7 +65,7 @@ some_line (NotYet offset) = some_byte 114 ((codes "efused notyet " ++ decimal of
 
 checked_fits : {bytes : List ℕ} {answer : Answer} → IsChecked bytes answer → Fits answer.status answer.text
 checked_fits (refused why h) = record { some = some_line why; known = two_ }
-checked_fits (judged {checked = shader} {violations = violations} parses stands are) =
+checked_fits (judged {checked = shader} {violations = violations} of are) =
     verdict_fits_by (count_of Error violations == 0) (counts_text (count_of Error violations) (count_of Warning violations) (count_of Info violations)) (flat_map (violation_text shader.functions) violations)
 
 fault_fits : (name : List ℕ) → Fits 5 (fault_read name).text
@@ -144,7 +144,7 @@ verdict_early false wanted late e = omega (arith, e)
 -- no check has a status above 2
 checked_early : {bytes : List ℕ} {answer : Answer} (wanted : ℕ) → 3 ≤ wanted → IsChecked bytes answer → answer.status ≡ wanted → ⊥
 checked_early wanted late (refused why h) e = omega (arith, e)
-checked_early wanted late (judged {violations = vs} parses stands are) e = verdict_early (count_of Error vs == 0) wanted (omega arith) e
+checked_early wanted late (judged {violations = vs} of are) e = verdict_early (count_of Error vs == 0) wanted (omega arith) e
 
 -- the status of a run
 ended_zero : (end : RunEnd) → run_status end ≡ 0 → end ≡ run_end.Ended
@@ -202,7 +202,7 @@ Anything text = Unit {0}
 
 one_holds : (bytes : List ℕ) (answer : Answer) → IsChecked bytes answer → answer.status ≡ 1 → Anything answer.text → Rejects bytes
 one_holds bytes answer (refused why h) e told = absurd (cc)
-one_holds bytes answer (judged {checked = shader} {violations = vs} parses stands are) e told = record { parses = parses; shader = shader; stands = stands; violations = vs; are = are; errors = some_errors (count_of Error vs) e }
+one_holds bytes answer (judged {checked = shader} {violations = vs} of are) e told = record { shader = shader; is = of; violations = vs; are = are; errors = some_errors (count_of Error vs) e }
 
 pub one_cause : {request : Request} {reads : List (Option (List ℕ))} {answer : Answer} → IsAnswerTo request reads answer → answer.status ≡ 1 → ShaderRead Rejects reads
 one_cause a e = shader_cause Rejects 1 (λ z. cc) (λ shader bytes answer r. ran_other 1 (λ z. cc) (λ z. cc) (λ z. cc) (λ z. cc) r) Anything one_holds a e tt
@@ -210,7 +210,7 @@ one_cause a e = shader_cause Rejects 1 (λ z. cc) (λ shader bytes answer r. ran
 -- what a refusal tells is its line
 pub two_holds : (Told : List ℕ → Type 0) (Holds : List ℕ → Type 0) → ((bytes : List ℕ) (r : Refuses bytes) → Told (refusal_line r.0) → Holds bytes) → (bytes : List ℕ) (answer : Answer) → IsChecked bytes answer → answer.status ≡ 2 → Told answer.text → Holds bytes
 two_holds Told Holds turn bytes answer (refused why is) e told = turn bytes (why, is) told
-two_holds Told Holds turn bytes answer (judged {violations = vs} parses stands are) e told = absurd (verdict_early (count_of Error vs == 0) 2 (omega arith) e)
+two_holds Told Holds turn bytes answer (judged {violations = vs} of are) e told = absurd (verdict_early (count_of Error vs == 0) 2 (omega arith) e)
 
 pub two_cause : (Told : List ℕ → Type 0) (Holds : List ℕ → Type 0) → ((bytes : List ℕ) (r : Refuses bytes) → Told (refusal_line r.0) → Holds bytes) → {request : Request} {reads : List (Option (List ℕ))} {answer : Answer} → IsAnswerTo request reads answer → answer.status ≡ 2 → Told answer.text → ShaderRead Holds reads
 two_cause Told Holds turn a e told = shader_cause Holds 2 (λ z. cc) (λ shader bytes answer r. ran_other 2 (λ z. cc) (λ z. cc) (λ z. cc) (λ z. cc) r) Told (two_holds Told Holds turn) a e told
@@ -259,7 +259,7 @@ module _ {request : Request} {reads : List (Option (List ℕ))} {answer : Answer
 
 checked_runs : (bytes : List ℕ) (answer : Answer) → IsChecked bytes answer → answer.status ≡ 0 → (shader : CoreModule) × Runs bytes shader
 checked_runs bytes answer (refused why h) e = absurd (cc)
-checked_runs bytes answer (judged {checked = shader} {violations = vs} parses stands are) e = (shader, record { parses = parses; stands = stands; violations = vs; are = are; no_errors = no_errors (count_of Error vs) e })
+checked_runs bytes answer (judged {checked = shader} {violations = vs} of are) e = (shader, record { is = of; violations = vs; are = are; no_errors = no_errors (count_of Error vs) e })
 
 pub zero_cause : {request : Request} {reads : List (Option (List ℕ))} {answer : Answer} → IsAnswerTo request reads answer → answer.status ≡ 0 → Succeeds (Some request) reads
 zero_cause check_unread e = absurd (cc)

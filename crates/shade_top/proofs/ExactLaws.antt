@@ -20,13 +20,13 @@ module _ (checks : (bytes : List ℕ) (a b : Answer) → IsChecked bytes a → I
 
   -- the verdict on a shader that runs, and on one that is rejected
   runs_checked : (bytes : List ℕ) (shader : CoreModule) (r : Runs bytes shader) → IsChecked bytes (verdict shader.functions r.violations)
-  runs_checked bytes shader r = judged r.parses r.stands r.are
+  runs_checked bytes shader r = judged r.is r.are
 
   runs_zero : (bytes : List ℕ) (shader : CoreModule) (r : Runs bytes shader) → (verdict shader.functions r.violations).status ≡ 0
   runs_zero bytes shader r = none_status (count_of Error r.violations) r.no_errors
 
   rejects_checked : (bytes : List ℕ) (r : Rejects bytes) → IsChecked bytes (verdict r.shader.functions r.violations)
-  rejects_checked bytes r = judged r.parses r.stands r.are
+  rejects_checked bytes r = judged r.is r.are
 
   rejects_one : (bytes : List ℕ) (r : Rejects bytes) → (verdict r.shader.functions r.violations).status ≡ 1
   rejects_one bytes r = errors_status (count_of Error r.violations) r.errors

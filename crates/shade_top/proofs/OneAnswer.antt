@@ -46,7 +46,7 @@ CheckedCases bytes a =
 
 checked_cases : {bytes : List ℕ} {a : Answer} → IsChecked bytes a → CheckedCases bytes a
 checked_cases (refused why is) = inl (why, is, refl)
-checked_cases (judged {checked = m} {violations = vs} parses stands are) = inr (m, vs, stands, are, refl, parses)
+checked_cases (judged {checked = m} {violations = vs} of are) = inr (m, vs, of.stands, are, refl, of.parses)
 
 abbrev RanCases : CoreModule → List ℕ → Answer → Type 0
 RanCases shader bytes a = (NoJob shader bytes × (a ≡ refused_job)) ⊎ ((steps : List ℕ) × States (lanes_of shader) bytes steps × (a ≡ outcome shader (ran shader steps)))
@@ -116,8 +116,8 @@ module _ (modules : OneModule) (places : OnePlace) (both : NeverBoth) (verdicts 
   run_one file name bytes [] a b x y = checked_one bytes a b x y
   run_one file name bytes (None ∷ reads) a b x y = x.2 ∙ sym y.2
   run_one file name bytes (Some steps ∷ reads) a b x y =
-      let same : y.0 ≡ x.0 = modules bytes y.0 x.0 y.1.stands x.1.stands in
-      ran_one bytes x.0 x.1.stands steps a b x.2 (subst (λ (s : CoreModule). RanCases s steps b) same y.2)
+      let same : y.0 ≡ x.0 = modules bytes y.0 x.0 y.1.is.stands x.1.is.stands in
+      ran_one bytes x.0 x.1.is.stands steps a b x.2 (subst (λ (s : CoreModule). RanCases s steps b) same y.2)
 
   to_one : (request : Request) (reads : List (Option (List ℕ))) (a b : Answer) → ToCases request reads a → ToCases request reads b → a ≡ b
   to_one (Check file) [] a b x y = absurd x

@@ -5,7 +5,6 @@ use Rattle.std.specs.Option.{option_map}
 use Rattle.std.proofs.lemmas.Bool.Decides.{nat_tests}
 use Rattle.shade_base.specs.declared.severity.Severity.TheVariants.{Error}
 use Rattle.shade_core.specs.declared.module.CoreModule.{CoreModule}
-use Rattle.shade_first.specs.FirstForm.{StandsFor}
 use Rattle.shade_report.specs.declared.refusal.Refusal.{Refusal}
 use Rattle.shade_report.specs.CheckReport.{count_of}
 use Rattle.shade_verdict.specs.declared.violation.Violation.{Violation}
@@ -15,7 +14,7 @@ use Rattle.shade_top.specs.Changes.{ShelfChange}
 use Rattle.shade_top.specs.Report.{Outcome, RunOutcome, answer_of}
 use Rattle.shade_top.specs.Request.{Request, Check, Run, File, files, shader_file, job_file}
 use Rattle.shade_top.specs.Serves.{AreReads}
-use Rattle.shade_top.specs.Text.{IsRefused, Parses}
+use Rattle.shade_top.specs.Text.{IsModuleOf, IsRefused}
 use Rattle.shade_top.specs.declared.report.Report.{Report}
 
 -- ---- results
@@ -37,8 +36,8 @@ pub refused_checked : {E : Type 0} (result : Result Report E) (bytes : List ℕ)
 refused_checked result bytes why is = if_ok (λ report told. subst (IsChecked bytes) (sym told) (refused why is)) result
 
 -- so is the verdict on the module that a text stands for
-pub verdict_checked : {E : Type 0} (result : Result Report E) (bytes : List ℕ) (shader : CoreModule) (vs : List Violation) → Parses bytes → StandsFor bytes shader → AreViolations shader.functions vs → IfOk result (λ report. answer_of report ≡ verdict shader.functions vs) → IfOk result (λ report. IsChecked bytes (answer_of report))
-verdict_checked result bytes shader vs parses stands are = if_ok (λ report told. subst (IsChecked bytes) (sym told) (judged parses stands are)) result
+pub verdict_checked : {E : Type 0} (result : Result Report E) (bytes : List ℕ) (shader : CoreModule) (vs : List Violation) → IsModuleOf bytes shader → AreViolations shader.functions vs → IfOk result (λ report. answer_of report ≡ verdict shader.functions vs) → IfOk result (λ report. IsChecked bytes (answer_of report))
+verdict_checked result bytes shader vs of are = if_ok (λ report told. subst (IsChecked bytes) (sym told) (judged of are)) result
 
 -- ---- a run whose shader is read
 
@@ -59,8 +58,8 @@ module _ {E : Type 0} (result : Result Report E) (shelf : ShelfChange) (bytes jo
   pub run_refused : (why : Refusal) → IsRefused bytes why → shelf.failed' ≡ shelf.failed → IfOk result (λ report. answer_of report ≡ refusal why) → RunOutcome shelf bytes job result
   run_refused why is = stops_with (refusal why) (refused why is) (λ e. cc)
 
-  pub run_rejected : (shader : CoreModule) (vs : List Violation) → 1 ≤ count_of Error vs → Parses bytes → StandsFor bytes shader → AreViolations shader.functions vs → shelf.failed' ≡ shelf.failed → IfOk result (λ report. answer_of report ≡ verdict shader.functions vs) → RunOutcome shelf bytes job result
-  run_rejected shader vs some parses stands are = stops_with (verdict shader.functions vs) (judged parses stands are) (not_zero (count_of Error vs) some) where
+  pub run_rejected : (shader : CoreModule) (vs : List Violation) → 1 ≤ count_of Error vs → IsModuleOf bytes shader → AreViolations shader.functions vs → shelf.failed' ≡ shelf.failed → IfOk result (λ report. answer_of report ≡ verdict shader.functions vs) → RunOutcome shelf bytes job result
+  run_rejected shader vs some of are = stops_with (verdict shader.functions vs) (judged of are) (not_zero (count_of Error vs) some) where
     by : (none : Bool) → none ≡ false → ◌≡◌ {A = ℕ} (if none then 0 else 1) 0 → ⊥
     by true off e = cc
     by false off e = cc
@@ -86,8 +85,8 @@ module _ {E : Type 0} (result : Result Report E) (shelf : ShelfChange) (bytes jo
   }
 
 -- a module without an error runs
-pub no_error_runs : (bytes : List ℕ) (shader : CoreModule) (vs : List Violation) → (1 ≤ count_of Error vs → ⊥) → Parses bytes → StandsFor bytes shader → AreViolations shader.functions vs → Runs bytes shader
-no_error_runs bytes shader vs none parses stands are = record { parses = parses; stands = stands; violations = vs; are = are; no_errors = zero_ (count_of Error vs) none } where
+pub no_error_runs : (bytes : List ℕ) (shader : CoreModule) (vs : List Violation) → (1 ≤ count_of Error vs → ⊥) → IsModuleOf bytes shader → AreViolations shader.functions vs → Runs bytes shader
+no_error_runs bytes shader vs none of are = record { is = of; violations = vs; are = are; no_errors = zero_ (count_of Error vs) none } where
   zero_ : (count : ℕ) → (1 ≤ count → ⊥) → count ≡ 0
   zero_ zero empty = refl
   zero_ (suc count) empty = absurd (empty (omega arith))

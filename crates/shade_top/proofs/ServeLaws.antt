@@ -41,7 +41,7 @@ errors_count v vs (later {other = other} {rest = rest} among) is =
 module _ (never : NeverDiverges) (clean : CleanWithoutErrors) where
   -- a shader that runs is clean
   no_divergence : (bytes : List ℕ) (shader : CoreModule) (job : List ℕ) → Runs bytes shader → Diverges shader job → ⊥
-  no_divergence bytes shader job r d = d.2 (never bytes shader inputs d.0 r.stands ((clean bytes shader r.violations r.stands r.are).0 no_error)) where
+  no_divergence bytes shader job r d = d.2 (never bytes shader inputs d.0 r.is.stands ((clean bytes shader r.violations r.is.stands r.are).0 no_error)) where
     no_error : HasError r.violations → ⊥
     no_error h = let some : 1 ≤ count_of Error r.violations = errors_count h.0 r.violations h.1 h.2 in let none : count_of Error r.violations ≡ 0 = r.no_errors in omega arith
 

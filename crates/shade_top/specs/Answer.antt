@@ -9,14 +9,13 @@ use Rattle.shade_report.specs.declared.refusal.Refusal.{Refusal}
 use Rattle.shade_report.specs.CheckReport.{count_of, check_report}
 use Rattle.shade_report.specs.Refusals.{job_refusal_line, refusal_line}
 use Rattle.shade_report.specs.RunReport.{run_report}
-use Rattle.shade_first.specs.FirstForm.{StandsFor}
 use Rattle.shade_mem.specs.declared.inputs.Inputs.{Inputs}
 use Rattle.shade_group.specs.declared.event.RunEnd.{RunEnd}
 use Rattle.shade_group.specs.declared.event.RunEnd.TheVariants as run_end
 use Rattle.shade_group.specs.Group.{Machine, begin, run, run_end_of}
 use Rattle.shade_job.specs.Steps.{States}
 use Rattle.shade_top.specs.Request.{Request, Check, Run, request_of}
-use Rattle.shade_top.specs.Text.{IsRefused, Parses}
+use Rattle.shade_top.specs.Text.{IsModuleOf, IsRefused}
 
 pub record Answer : Type 0 where
   pub status : ℕ
@@ -43,14 +42,13 @@ verdict functions violations = record { status = verdict_status violations; text
 -- The answer to a text: why it is refused, or the verdict on the module that it stands for.
 pub data IsChecked (bytes : List ℕ) : Answer → Type 0 where
   refused : (why : Refusal) → IsRefused bytes why → IsChecked bytes (refusal why)
-  judged : {checked : CoreModule} {violations : List Violation} → Parses bytes → StandsFor bytes checked → AreViolations checked.functions violations → IsChecked bytes (verdict checked.functions violations)
+  judged : {checked : CoreModule} {violations : List Violation} → IsModuleOf bytes checked → AreViolations checked.functions violations → IsChecked bytes (verdict checked.functions violations)
 
 -- ---- runs
 
--- A text that is run: its tokens spell a tree, and it stands for a module none of whose violations is an error.
+-- A text that is run: it stands for this module, none of whose violations is an error.
 pub record Runs (bytes : List ℕ) (shader : CoreModule) : Type 0 where
-  pub parses : Parses bytes
-  pub stands : StandsFor bytes shader
+  pub is : IsModuleOf bytes shader
   pub violations : List Violation
   pub are : AreViolations shader.functions violations
   pub no_errors : count_of Error violations ≡ 0

@@ -10,22 +10,20 @@ use Rattle.shade_verdict.specs.Violations.{AreViolations}
 use Rattle.shade_report.specs.declared.refusal.Refusal.{Refusal}
 use Rattle.shade_report.specs.CheckReport.{count_of}
 use Rattle.shade_report.specs.Refusals.{refusal_line}
-use Rattle.shade_first.specs.FirstForm.{StandsFor}
 use Rattle.shade_group.specs.declared.event.RunEnd.TheVariants as run_end
 use Rattle.shade_group.specs.Group.{run_end_of}
 use Rattle.shade_job.specs.Steps.{States}
 use Rattle.shade_top.specs.Answer.{Answer, NoJob, Runs, fault_read, lanes_of, ran}
 use Rattle.shade_top.specs.Changes.{ShelfChange, SinkChange}
 use Rattle.shade_top.specs.Request.{Request, Check, Run, File, request_of, files_of}
-use Rattle.shade_top.specs.Text.{IsRefused, Parses}
+use Rattle.shade_top.specs.Text.{IsModuleOf, IsRefused}
 
 -- ---- causes
 
--- The tokens of the text spell a tree, and it stands for a module with a violation that is an error.
+-- The text stands for a module with a violation that is an error.
 pub record Rejects (bytes : List ℕ) : Type 0 where
-  pub parses : Parses bytes
   pub shader : CoreModule
-  pub stands : StandsFor bytes shader
+  pub is : IsModuleOf bytes shader
   pub violations : List Violation
   pub are : AreViolations shader.functions violations
   pub errors : count_of Error violations ≢ 0

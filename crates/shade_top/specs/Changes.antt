@@ -7,8 +7,8 @@ pub record ShelfChange : Type 0 where
   pub failed : List (List ℕ)
   pub failed' : List (List ℕ)
 
-abbrev pub shelf_change : Option (List ℕ → Option (List ℕ)) → List (List ℕ) → List (List ℕ) → ShelfChange
-shelf_change texts failed failed' = record { texts = texts; failed = failed; failed' = failed' }
+abbrev pub shelf_change : {S : Type 0} → (S → Option (List ℕ → Option (List ℕ))) → (S → List (List ℕ)) → S → S → ShelfChange
+shelf_change texts failed old new = record { texts = texts old; failed = failed old; failed' = failed new }
 
 -- The bytes that a sink has taken, where it tells them, and its count of faults, before the call and after it.
 pub record SinkChange : Type 0 where
@@ -17,5 +17,5 @@ pub record SinkChange : Type 0 where
   pub faults : ℕ
   pub faults' : ℕ
 
-abbrev pub sink_change : Option (List ℕ) → Option (List ℕ) → ℕ → ℕ → SinkChange
-sink_change taken taken' faults faults' = record { taken = taken; taken' = taken'; faults = faults; faults' = faults' }
+abbrev pub sink_change : {S : Type 0} → (S → Option (List ℕ)) → (S → ℕ) → S → S → SinkChange
+sink_change taken faults old new = record { taken = taken old; taken' = taken new; faults = faults old; faults' = faults new }

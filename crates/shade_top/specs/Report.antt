@@ -1,7 +1,8 @@
 -- On the way to the proof: what the parts of the top call make of a text, a job, a file or a request.
-use Rattle.std.specs.Prelude.{◌≡◌, ℕ, List, [], ◌∷◌, Result, IfOk, Option, Some, None}
+use Rattle.std.specs.Prelude.{◌≡◌, ℕ, List, [], ◌∷◌, Result, Ok, Err, IfOk, Option, Some, None, Vec}
+use Rattle.std.specs.Option.{option_map}
+use Rattle.std.specs.declared.alloc.Global.{Global}
 use Rattle.shade_core.specs.declared.module.CoreModule.{CoreModule}
-use Rattle.shade_first.specs.FirstForm.{StandsFor}
 use Rattle.shade_group.specs.Group.{IsRunnable}
 use Rattle.shade_lex.specs.declared.fault.LexFault.{LexFault}
 use Rattle.shade_lex.specs.declared.fault.LexFault.TheVariants as lex_fault
@@ -13,9 +14,9 @@ use Rattle.shade_report.specs.declared.refusal.Refusal.TheVariants.{Lex, Unexpec
 use Rattle.shade_top.specs.Answer.{Answer, IsAnswerTo, MayRead}
 use Rattle.shade_top.specs.Changes.{ShelfChange}
 use Rattle.shade_top.specs.Request as asked
-use Rattle.shade_top.specs.Request.{files, job_file}
+use Rattle.shade_top.specs.Request.{File, files, job_file}
 use Rattle.shade_top.specs.Serves.{AreReads}
-use Rattle.shade_top.specs.Text.{IsRefused, Parses}
+use Rattle.shade_top.specs.Text.{IsModuleOf, IsRefused}
 use Rattle.shade_top.specs.declared.report.Report.{Report}
 use Rattle.shade_top.specs.declared.request.Request.{Request}
 use Rattle.shade_top.specs.declared.request.Request.TheVariants as request
@@ -44,15 +45,20 @@ syntax_refusal (syntax_fault.Unexpected place) = Some (Unexpected place)
 syntax_refusal (syntax_fault.TooDeep place) = Some (TooDeep place)
 syntax_refusal syntax_fault.NoMemory = None
 
--- what is made of a text: the module that it stands for, where its tokens spell a tree, or why it is refused
+-- what is made of a text: the module that it stands for, or why it is refused
 abbrev pub IsReadingOf : List ℕ → Reading → Type 0
-IsReadingOf bytes (reading.Shader shader) = Parses bytes × StandsFor bytes shader
+IsReadingOf bytes (reading.Shader shader) = IsModuleOf bytes shader
 IsReadingOf bytes (reading.Refused why) = IsRefused bytes why
 
 -- a module that the machine runs
 pub record IsReady (shader : CoreModule) : Type 0 where
   pub runs : IsRunnable shader 0
   pub rootless : shader.roots ≡ []
+
+-- a read of one file: what it gave, or want of memory, which leaves the failed names
+abbrev pub IsReadBy : {E : Type 0} → ShelfChange → File → Result (Option (Vec ℕ Global)) E → Type 0
+IsReadBy shelf file (Ok read) = AreReads shelf.texts (file ∷ []) (option_map (λ bytes. bytes.items) read ∷ []) shelf.failed shelf.failed'
+IsReadBy shelf file (Err _) = shelf.failed' ≡ shelf.failed
 
 -- the reads that a request led to, and the answer to them, if memory did not run out
 pub record Outcome {E : Type 0} (shelf : ShelfChange) (request : asked.Request) (result : Result Report E) : Type 0 where

@@ -1,11 +1,16 @@
 -- What the words of the program ask for, and which files it may read.
-use Rattle.std.specs.Prelude.{ℕ, List, [], ◌∷◌, if◌then◌else◌, Option, None, Some, codes}
+use Rattle.std.specs.Prelude.{ℕ, List, [], ◌∷◌, map, if◌then◌else◌, Option, None, Some, codes, String, string_bytes}
+use Rattle.std.specs.declared.alloc.Global.{Global}
 use Rattle.std.specs.Str.{bytes_eq}
 
 -- `check FILE`, or `run FILE JOB`
 pub data Request : Type 0 where
   Check : List ℕ → Request
   Run : List ℕ → List ℕ → Request
+
+-- words, each as its bytes
+abbrev pub texts_of : List (String Global) → List (List ℕ)
+texts_of words = map (λ word. string_bytes word) words
 
 -- the request that the words make, where they fit a form
 abbrev pub request_of : List (List ℕ) → Option Request

@@ -8,7 +8,8 @@ use Rattle.shade_ast.specs.declared.tree.Tree.{Tree}
 use Rattle.shade_ast.specs.Lexemes.{Lexeme, lexemes}
 use Rattle.shade_cursor.specs.TokenPlaces.{IsPlaceOf}
 use Rattle.shade_parse.specs.Answers.{IsTree, IsUnexpected, IsTooDeep}
-use Rattle.shade_first.specs.FirstForm.{LeavesAt}
+use Rattle.shade_core.specs.declared.module.CoreModule.{CoreModule}
+use Rattle.shade_first.specs.FirstForm.{LeavesAt, StandsFor}
 use Rattle.shade_report.specs.declared.refusal.Refusal.{Refusal}
 use Rattle.shade_report.specs.declared.refusal.Refusal.TheVariants.{TooLong, Utf8, Lex, Unexpected, TooDeep, NotYet}
 
@@ -29,6 +30,11 @@ pub record HasTokens (bytes : List ℕ) (Holds : List Token → List Lexeme → 
 -- The tokens of the text spell a tree, and none of them passes a depth.
 abbrev pub Parses : List ℕ → Type 0
 Parses bytes = HasTokens bytes (λ tokens read. (tree : Tree) × IsTree read tree)
+
+-- The text passes every layer, and this is the module that it stands for.
+pub record IsModuleOf (bytes : List ℕ) (shader : CoreModule) : Type 0 where
+  pub parses : Parses bytes
+  pub stands : StandsFor bytes shader
 
 -- A text is refused for the first of these that it does not pass: its length; UTF-8, at the end of its longest beginning that is
 -- UTF-8; its tokens; its syntax; and the first form.

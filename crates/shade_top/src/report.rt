@@ -1,14 +1,11 @@
 //! The answer to a request: reading its files, and what is said of them.
 
-ghost use Rattle.std.specs.Prelude.{◌≡◌, ◌<◌, ◌≤◌, ◌↔◌, ℕ, List, [], ◌∷◌, IsTrue, IfOk, MatchResult};
-ghost use Rattle.std.specs.Option.{option_map};
-ghost use Rattle.shade_first.specs.FirstForm.{StandsFor};
+ghost use Rattle.std.specs.Prelude.{◌≡◌, ◌<◌, ◌≤◌, ◌↔◌, ℕ, List, IsTrue, IfOk};
 ghost use Rattle.shade_report.specs.CheckReport.{count_of};
 ghost use Rattle.shade_top.specs.Answer.{IsChecked, fault_read, refusal as refusal_answer, verdict as verdict_answer, verdict_status};
 ghost use Rattle.shade_top.specs.Changes.{shelf_change};
-ghost use Rattle.shade_top.specs.Report.{answer_of, Outcome, request_seen};
-ghost use Rattle.shade_top.specs.Serves.{AreReads};
-ghost use Rattle.shade_top.specs.Text.{Parses};
+ghost use Rattle.shade_top.specs.Report.{answer_of, IsReadBy, Outcome, request_seen};
+ghost use Rattle.shade_top.specs.Text.{IsModuleOf};
 
 use crate::request::Request;
 use crate::run::run_bytes;
@@ -32,7 +29,7 @@ pub fn report_on<H: Shelf>(
     request: Request,
     shelf: &mut H,
 ) -> Result<Report, AllocError>
-    ensures outcome { Outcome (shelf_change (H.texts shelf.old) (H.failed shelf.old) (H.failed shelf.new)) (request_seen request.entry) result }
+    ensures outcome { Outcome (shelf_change H.texts H.failed shelf.old shelf.new) (request_seen request.entry) result }
     ensures texts { H.texts shelf.new ≡ H.texts shelf.old }
 {
     match request {
@@ -55,7 +52,7 @@ pub fn read<H: Shelf>(
     shelf: &mut H,
 ) -> Result<Option<Vec<u8>>, AllocError>
     requires { limit < usize.MAX }
-    ensures given { MatchResult result (λ read. AreReads (H.texts shelf.old) (record { name = name.now; limit = limit } ∷ []) (option_map (λ bytes. bytes.items) read ∷ []) (H.failed shelf.old) (H.failed shelf.new)) (λ e. H.failed shelf.new ≡ H.failed shelf.old) }
+    ensures given { IsReadBy (shelf_change H.texts H.failed shelf.old shelf.new) (record { name = name.now; limit = limit }) result }
     ensures texts { H.texts shelf.new ≡ H.texts shelf.old }
 {
     match shelf.read(alloc, name, limit) {
@@ -100,7 +97,7 @@ fn check(alloc: Global, bytes: &[u8]) -> Result<Report, AllocError>
 
 /// Judges the module that a text stands for.
 fn judge(alloc: Global, shader: &CoreModule) -> Result<Report, AllocError>
-    ensures { (bytes : List ℕ) → Parses bytes → StandsFor bytes shader.now → IfOk result (λ report. IsChecked bytes (answer_of report)) }
+    ensures { (bytes : List ℕ) → IsModuleOf bytes shader.now → IfOk result (λ report. IsChecked bytes (answer_of report)) }
 {
     let violations = violations_of(alloc, shader)?;
     verdict(alloc, shader, &violations)

@@ -1,10 +1,9 @@
 //! What the words ask for.
 
-ghost use Rattle.std.specs.Prelude.{◌≡◌, map};
+ghost use Rattle.std.specs.Prelude.{◌≡◌};
 ghost use Rattle.std.specs.Option.{option_map};
-ghost use Rattle.std.specs.String.{string_bytes};
 ghost use Rattle.shade_top.specs.Report.{request_seen};
-ghost use Rattle.shade_top.specs.Request.{request_of as request_in};
+ghost use Rattle.shade_top.specs.Request.{request_of as request_in, texts_of};
 
 /// What the words ask for: a check of a shader, or a run of it by a job, each with the names of its files.
 #[derive(Clone, Copy)]
@@ -15,7 +14,7 @@ pub enum Request<'a> {
 
 /// The request that the words make, where they fit a form.
 pub fn request_of(words: &[String]) -> Option<Request>
-    ensures { option_map request_seen result ≡ request_in (map (λ word. string_bytes word) words.now) }
+    ensures { option_map request_seen result ≡ request_in (texts_of words.now) }
 {
     match words {
         [verb, file] if verb.as_str() == "check" => Some(Request::Check(file.as_str())),

@@ -1,13 +1,12 @@
 //! The answer to a run of a shader by a job.
 
 ghost use Rattle.std.specs.Prelude.{◌≡◌, ◌<◌, ℕ, List, [], length, slice_get, Some, IfOk};
-ghost use Rattle.shade_first.specs.FirstForm.{StandsFor};
 ghost use Rattle.shade_group.specs.Group.{run};
 ghost use Rattle.shade_group.specs.Seen.{machine_of};
 ghost use Rattle.shade_top.specs.Answer.{inputs as run_inputs, IsRan, outcome, refused_job as refused_job_answer, run_status, Runs};
 ghost use Rattle.shade_top.specs.Changes.{shelf_change};
 ghost use Rattle.shade_top.specs.Report.{answer_of, IsReady, RunOutcome};
-ghost use Rattle.shade_top.specs.Text.{Parses};
+ghost use Rattle.shade_top.specs.Text.{IsModuleOf};
 
 use crate::report::{Report, has_error, read, refused, unread, verdict};
 use crate::text::{Reading, read_shader};
@@ -29,7 +28,7 @@ pub fn run_bytes<H: Shelf>(
     job: &str,
     shelf: &mut H,
 ) -> Result<Report, AllocError>
-    ensures outcome { RunOutcome (shelf_change (H.texts shelf.old) (H.failed shelf.old) (H.failed shelf.new)) bytes.now job.now result }
+    ensures outcome { RunOutcome (shelf_change H.texts H.failed shelf.old shelf.new) bytes.now job.now result }
     ensures texts { H.texts shelf.new ≡ H.texts shelf.old }
 {
     // A law, whose clause the proof uses; it does nothing when it runs.
@@ -49,7 +48,7 @@ fn run_shader<H: Shelf>(
     shelf: &mut H,
 ) -> Result<Report, AllocError>
     requires { IsReady shader.now }
-    ensures outcome { (bytes : List ℕ) → Parses bytes → StandsFor bytes shader.now → RunOutcome (shelf_change (H.texts shelf.old) (H.failed shelf.old) (H.failed shelf.new)) bytes job.now result }
+    ensures outcome { (bytes : List ℕ) → IsModuleOf bytes shader.now → RunOutcome (shelf_change H.texts H.failed shelf.old shelf.new) bytes job.now result }
     ensures texts { H.texts shelf.new ≡ H.texts shelf.old }
 {
     let violations = violations_of(alloc, shader)?;
@@ -67,7 +66,7 @@ fn run_job_file<H: Shelf>(
     shelf: &mut H,
 ) -> Result<Report, AllocError>
     requires { IsReady shader.now }
-    ensures outcome { (bytes : List ℕ) → Runs bytes shader.now → RunOutcome (shelf_change (H.texts shelf.old) (H.failed shelf.old) (H.failed shelf.new)) bytes job.now result }
+    ensures outcome { (bytes : List ℕ) → Runs bytes shader.now → RunOutcome (shelf_change H.texts H.failed shelf.old shelf.new) bytes job.now result }
     ensures texts { H.texts shelf.new ≡ H.texts shelf.old }
 {
     match read(alloc, job, MOST_BYTES, shelf)? {

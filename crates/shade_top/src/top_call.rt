@@ -1,8 +1,8 @@
 //! The top call.
 
-ghost use Rattle.std.specs.Prelude.{◌≡◌, ◌≤◌, length, map};
-ghost use Rattle.std.specs.String.{string_bytes};
+ghost use Rattle.std.specs.Prelude.{◌≡◌, ◌≤◌, length};
 ghost use Rattle.shade_top.specs.Changes.{shelf_change, sink_change};
+ghost use Rattle.shade_top.specs.Request.{texts_of};
 ghost use Rattle.shade_top.specs.Serves.{IsWritten, Serves};
 
 use crate::report::report_on;
@@ -24,7 +24,7 @@ pub fn serve<H: Shelf, K: Sink>(
     out: &mut K,
 ) -> Status
     // what was read, what was written, and why the call ended with this status
-    ensures serves { Serves (map (λ word. string_bytes word) words.now) (shelf_change (H.texts shelf.old) (H.failed shelf.old) (H.failed shelf.new)) (sink_change (K.taken out.old) (K.taken out.new) (K.faults out.old) (K.faults out.new)) result.0 }
+    ensures serves { Serves (texts_of words.now) (shelf_change H.texts H.failed shelf.old shelf.new) (sink_change K.taken K.faults out.old out.new) result.0 }
     // no text on the shelf changes
     ensures texts { H.texts shelf.new ≡ H.texts shelf.old }
 {
@@ -43,7 +43,7 @@ pub fn serve<H: Shelf, K: Sink>(
 /// Writes a text, and ends with its status, or with that of a failed write.
 fn written<K: Sink>(out: &mut K, status: Status, text: &[u8]) -> Status
     requires { 1 ≤ length text.now }
-    ensures { IsWritten (record { status = status.0; text = text.now }) (sink_change (K.taken out.old) (K.taken out.new) (K.faults out.old) (K.faults out.new)) result.0 }
+    ensures { IsWritten (record { status = status.0; text = text.now }) (sink_change K.taken K.faults out.old out.new) result.0 }
 {
     match out.write(text) {
         Ok(()) => status,

@@ -8,12 +8,12 @@ use Rattle.shade_top.proofs.run.run_bytes.Goals as goal
 pub run_shader-requires : goal.run_shader-requires
 run_shader-requires g c =
     let is : IsReadingOf c.args.bytes.now (reading.Shader c.in-Ok-Shader.shader) = subst (IsReadingOf c.args.bytes.now) c.in-Ok-Shader.field-0-is c.in-Ok-Shader.ensures in
-    ready c.first_form_runs.ensures c.args.bytes.now c.in-Ok-Shader.shader is.1
+    ready c.first_form_runs.ensures c.args.bytes.now c.in-Ok-Shader.shader is.stands
 
 pub returns-in-Ok-Shader-clause-outcome : goal.returns-in-Ok-Shader-clause-outcome
 returns-in-Ok-Shader-clause-outcome g c =
     let is : IsReadingOf c.args.bytes.now (reading.Shader c.in-Ok-Shader.shader) = subst (IsReadingOf c.args.bytes.now) c.in-Ok-Shader.field-0-is c.in-Ok-Shader.ensures in
-    c.run_shader.ensures.outcome c.args.bytes.now is.0 is.1
+    c.run_shader.ensures.outcome c.args.bytes.now is
 
 pub returns-in-Ok-Refused-clause-outcome : goal.returns-in-Ok-Refused-clause-outcome
 returns-in-Ok-Refused-clause-outcome g c =
