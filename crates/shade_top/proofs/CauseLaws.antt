@@ -83,9 +83,18 @@ line_some : (m : Machine) → 1 ≤ length (run_line m)
 line_some m = some_byte 114 ((codes "un " ++ end_word (run_end_of m)) ++ ((codes " steps " ++ decimal m.steps) ++ ((codes " stutters " ++ decimal m.stutters) ++ codes "\n")))
 
 outcome_fits : (shader : CoreModule) (m : Machine) → Fits (outcome shader m).status (outcome shader m).text
-outcome_fits shader m =
-    run_fits_by (run_end_of m) (outcome shader m).text (front_some (((run_line m ++ lane_lines shader.functions m (run_end_of m)) ++ released_line m) ++ release_lines shader.functions 0 m.released) (codes "races 0\n")
-    (front_some ((run_line m ++ lane_lines shader.functions m (run_end_of m)) ++ released_line m) (release_lines shader.functions 0 m.released) (front_some (run_line m ++ lane_lines shader.functions m (run_end_of m)) (released_line m) (front_some (run_line m) (lane_lines shader.functions m (run_end_of m)) (line_some m)))))
+outcome_fits shader m = run_fits_by (run_end_of m) (outcome shader m).text (front_some (lanes ++ releases) (codes "races 0\n") (front_some lanes releases (front_some first (released_line m) (front_some (run_line m) stopped (line_some m))))) where
+  stopped : List ℕ
+  stopped = lane_lines shader.functions m (run_end_of m)
+
+  first : List ℕ
+  first = run_line m ++ stopped
+
+  lanes : List ℕ
+  lanes = first ++ released_line m
+
+  releases : List ℕ
+  releases = release_lines shader.functions 0 m.released
 
 ran_fits : {shader : CoreModule} {bytes : List ℕ} {answer : Answer} → IsRan shader bytes answer → Fits answer.status answer.text
 ran_fits (no_job none) = record { some = some_byte 114 (codes "efused job / J1\n"); known = four_ }
@@ -187,7 +196,11 @@ not_three (run_ runs r) e = ran_other 3 (λ z. cc) (λ z. cc) (λ z. cc) (λ z. 
 
 -- ---- causes in the shader
 
-module _ (Holds : List ℕ → Type 0) (wanted : ℕ) (not_five : wanted ≢ 5) (other : (shader : CoreModule) (bytes : List ℕ) (answer : Answer) → IsRan shader bytes answer → answer.status ≡ wanted → ⊥) (Told : List ℕ → Type 0) (holds : (bytes : List ℕ) (answer : Answer) → IsChecked bytes answer → answer.status ≡ wanted → Told answer.text → Holds bytes) where
+-- no run has this status
+abbrev NoRun : ℕ → Type 0
+NoRun wanted = (shader : CoreModule) (bytes : List ℕ) (answer : Answer) → IsRan shader bytes answer → answer.status ≡ wanted → ⊥
+
+module _ (Holds : List ℕ → Type 0) (wanted : ℕ) (not_five : wanted ≢ 5) (other : NoRun wanted) (Told : List ℕ → Type 0) (holds : (bytes : List ℕ) (answer : Answer) → IsChecked bytes answer → answer.status ≡ wanted → Told answer.text → Holds bytes) where
   shader_cause : {request : Request} {reads : List (Option (List ℕ))} {answer : Answer} → IsAnswerTo request reads answer → answer.status ≡ wanted → Told answer.text → ShaderRead Holds reads
   shader_cause check_unread e told = absurd (not_five (sym e))
   shader_cause (checked {bytes = bytes} {answer = answer} c) e told = holds bytes answer c e told
@@ -212,7 +225,8 @@ pub two_holds : (Told : List ℕ → Type 0) (Holds : List ℕ → Type 0) → (
 two_holds Told Holds turn bytes answer (refused why is) e told = turn bytes (why, is) told
 two_holds Told Holds turn bytes answer (judged {violations = vs} of are) e told = absurd (verdict_early (count_of Error vs == 0) 2 (omega arith) e)
 
-pub two_cause : (Told : List ℕ → Type 0) (Holds : List ℕ → Type 0) → ((bytes : List ℕ) (r : Refuses bytes) → Told (refusal_line r.0) → Holds bytes) → {request : Request} {reads : List (Option (List ℕ))} {answer : Answer} → IsAnswerTo request reads answer → answer.status ≡ 2 → Told answer.text → ShaderRead Holds reads
+pub two_cause : (Told : List ℕ → Type 0) (Holds : List ℕ → Type 0) → ((bytes : List ℕ) (r : Refuses bytes) → Told (refusal_line r.0) → Holds bytes) → {request : Request} {reads : List (Option (List ℕ))} {answer : Answer}
+    → IsAnswerTo request reads answer → answer.status ≡ 2 → Told answer.text → ShaderRead Holds reads
 two_cause Told Holds turn a e told = shader_cause Holds 2 (λ z. cc) (λ shader bytes answer r. ran_other 2 (λ z. cc) (λ z. cc) (λ z. cc) (λ z. cc) r) Told (two_holds Told Holds turn) a e told
 
 pub refused_cause : {request : Request} {reads : List (Option (List ℕ))} {answer : Answer} → IsAnswerTo request reads answer → answer.status ≡ 2 → ShaderRead Refuses reads

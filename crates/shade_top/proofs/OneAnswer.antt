@@ -89,7 +89,10 @@ none_some asked request none some = let clash : None ≡ Some request = sym none
 one_request : (asked : Option Request) (a b : Request) → asked ≡ Some a → asked ≡ Some b → a ≡ b
 one_request asked a b e f = let same : Some a ≡ Some b = sym e ∙ f in cc
 
-module _ (modules : OneModule) (places : OnePlace) (both : NeverBoth) (verdicts : OneVerdict) (jobs : OneJob) (runnable : FirstFormRuns) (reads : (text : List ℕ) → IsReadOnce text) (lists : (text : List ℕ) (tokens : List Token) → HaveOneReading text tokens) (trees : (tokens : List Lexeme) → IsParsedOnce tokens) where
+abbrev OneTemplates : Type 0
+OneTemplates = (text : List ℕ) (tokens : List Token) → HaveOneReading text tokens
+
+module _ (modules : OneModule) (places : OnePlace) (both : NeverBoth) (verdicts : OneVerdict) (jobs : OneJob) (runnable : FirstFormRuns) (reads : (text : List ℕ) → IsReadOnce text) (lists : OneTemplates) (trees : (tokens : List Lexeme) → IsParsedOnce tokens) where
   one_verdict : (bytes : List ℕ) (m n : CoreModule) (vs ws : List Violation) → StandsFor bytes m → StandsFor bytes n → AreViolations m.functions vs → AreViolations n.functions ws → verdict m.functions vs ≡ verdict n.functions ws
   one_verdict bytes m n vs ws sm sn am an =
       let same : m ≡ n = modules bytes m n sm sn in

@@ -36,7 +36,8 @@ pub refused_checked : {E : Type 0} (result : Result Report E) (bytes : List ℕ)
 refused_checked result bytes why is = if_ok (λ report told. subst (IsChecked bytes) (sym told) (refused why is)) result
 
 -- so is the verdict on the module that a text stands for
-pub verdict_checked : {E : Type 0} (result : Result Report E) (bytes : List ℕ) (shader : CoreModule) (vs : List Violation) → IsModuleOf bytes shader → AreViolations shader.functions vs → IfOk result (λ report. answer_of report ≡ verdict shader.functions vs) → IfOk result (λ report. IsChecked bytes (answer_of report))
+pub verdict_checked : {E : Type 0} (result : Result Report E) (bytes : List ℕ) (shader : CoreModule) (vs : List Violation) → IsModuleOf bytes shader → AreViolations shader.functions vs
+    → IfOk result (λ report. answer_of report ≡ verdict shader.functions vs) → IfOk result (λ report. IsChecked bytes (answer_of report))
 verdict_checked result bytes shader vs of are = if_ok (λ report told. subst (IsChecked bytes) (sym told) (judged of are)) result
 
 -- ---- a run whose shader is read

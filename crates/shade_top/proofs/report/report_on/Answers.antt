@@ -19,7 +19,9 @@ returns-in_err-bytes-in-Run-clause-outcome g c = nothing_outcome c.from_residual
 
 pub returns-in-Some-2-clause-outcome : goal.returns-in-Some-2-clause-outcome
 returns-in-Some-2-clause-outcome g c =
-    run_outcome c.run_bytes.result _ _ _ (request_seen c.args.request) c.in-Run.file.now _ c.in-Run.job.now c.in-Some-2.bytes.items (ap request_seen c.in-Run.is) (read_as _ _ _ _ c.in_ok-bytes-in-Run.field-0 _ c.in-Some-2.is c.in_ok-bytes-in-Run.ensures.given) (rw (c.deref-in-Some-2.ensures.value, c.in_ok-bytes-in-Run.ensures.texts) at c.run_bytes.ensures.outcome)
+    run_outcome c.run_bytes.result _ _ _ (request_seen c.args.request) c.in-Run.file.now _ c.in-Run.job.now c.in-Some-2.bytes.items (ap request_seen c.in-Run.is)
+    (read_as _ _ _ _ c.in_ok-bytes-in-Run.field-0 _ c.in-Some-2.is c.in_ok-bytes-in-Run.ensures.given)
+    (rw (c.deref-in-Some-2.ensures.value, c.in_ok-bytes-in-Run.ensures.texts) at c.run_bytes.ensures.outcome)
 
 pub returns-in-None-2-clause-outcome : goal.returns-in-None-2-clause-outcome
 returns-in-None-2-clause-outcome g c =
