@@ -11,7 +11,7 @@ use Rattle.shade_flow.specs.Bits.{Has}
 use Rattle.shade_flow.specs.Flow.{same_var}
 use Rattle.shade_flow.specs.Lists.{In}
 use Rattle.shade_flow.specs.Chosen.{one, chosen, IsChosen, Precedes, Ascends, DefinedAscend}
-use Rattle.shade_flow.proofs.Members.{in_left, in_right, in_split}
+use Rattle.shade_flow.proofs.Members.{in_left, in_right, in_split, in_slice}
 
 one_by : (a b : Bool) (by other : Definition) → In by (if a && b then other ∷ [] else []) → (a ≡ true) × (b ≡ true) × (other ≡ by)
 one_by true true by other (inl e) = (refl, refl, sym e)
@@ -61,7 +61,7 @@ chosen_ascends variable row bit [] u = tt
 chosen_ascends variable row bit (d ∷ later) u = by (same_var d.variable variable && nat_eq (bit_at row bit) 1) (chosen_ascends variable row (bit + 1) later u.1)
   where
     behind : (other : Definition) → In other (chosen variable row (bit + 1) later) → Precedes d.by other
-    behind other h = let c : IsChosen variable row (bit + 1) later other = listed_chosen variable row (bit + 1) later other h in subst (λ (b : Definition). Precedes d.by b) c.is (u.0 c.place c.defined c.there)
+    behind other h = let c : IsChosen variable row (bit + 1) later other = listed_chosen variable row (bit + 1) later other h in subst (λ (b : Definition). Precedes d.by b) c.is (u.0 c.defined (in_slice later c.place c.defined c.there))
 
     by : (b : Bool) → Ascends (chosen variable row (bit + 1) later) → Ascends ((if b then d.by ∷ [] else []) ++ chosen variable row (bit + 1) later)
     by true rest = (behind, rest)

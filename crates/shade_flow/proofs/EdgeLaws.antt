@@ -1,14 +1,18 @@
 -- The edges of a function's list of ways are its ways.
-use Rattle.std.proofs.Common.{◌≡◌, ℕ, zero, suc, ◌<◌, List, [], ◌∷◌, length, get_or, map, refl, ap, sym, arith, inl, inr}
-use Rattle.std.specs.Prelude.{Contains}
+use Rattle.std.proofs.Common.{◌≡◌, ℕ, zero, suc, ◌<◌, List, [], ◌∷◌, length, get_or, map, refl, ap, sym, ◌∙◌, arith, subst, inl, inr}
+use Rattle.std.specs.Prelude.{Contains, All}
+use Rattle.std.proofs.lemmas.List.Elements.{All-contains}
 use Rattle.shade_core.specs.Code.{Code}
-use Rattle.shade_reach.specs.Digraph.{HasEdge, SameEdges}
+use Rattle.shade_reach.specs.Digraph.{HasEdge, JoinsNodes, SameEdges}
 use Rattle.shade_flow.specs.declared.point.Point.{Point}
 use Rattle.shade_flow.specs.declared.point.Point.TheVariants.{Past}
-use Rattle.shade_flow.specs.Flow.{Mark, Ways}
+use Rattle.shade_flow.specs.Flow.{Mark, entry, Ways}
+use Rattle.shade_flow.specs.declared.routes.Routes.{Routes}
+use Rattle.shade_flow.specs.Routes.{IsRoutesOf}
+use Rattle.shade_flow.specs.Writes.{writes_of}
 use Rattle.shade_flow.specs.Lists.{In}
 use Rattle.shade_flow.specs.Steps.{steps_of}
-use Rattle.shade_flow.specs.Tables.{number, numbers, AreWays}
+use Rattle.shade_flow.specs.Tables.{number, numbers, Joins, AreWays}
 use Rattle.shade_flow.proofs.StepLaws.{IsWay, listed_way, way_listed}
 
 among_edge : (xs : List (Point × Point)) (x : Point × Point) → In x xs → Contains (map numbers xs) (numbers x)
@@ -38,4 +42,18 @@ pub graph_ways : (body : Code) (old new : List (ℕ × ℕ)) → AreWays body ol
 graph_ways body old new w same = record {
   there = λ u v m f. (same (number u) (number v)).0 (w.there u v m f);
   back = λ i j h. w.back i j ((same i j).1 h);
+}
+
+pub joins_nodes : (edges : List (ℕ × ℕ)) (count : ℕ) → All (Joins count) edges → JoinsNodes count edges
+joins_nodes edges count all from to h = All-contains (Joins count) edges (from, to) all h
+
+-- a graph made of the list of ways, with its writes
+pub are_routes : (body : Code) (routes : Routes) (steps : List (Point × Point)) (edges : List (ℕ × ℕ)) → steps ≡ steps_of Past Past Past body → edges ≡ map numbers steps → routes.graph.nodes ≡ routes.nodes
+    → SameEdges edges routes.graph.edges → All (Joins routes.nodes) edges → routes.first ≡ number (entry body Past) → routes.first < routes.nodes → routes.writes.items ≡ writes_of body → IsRoutesOf body routes
+are_routes body routes steps edges s e nodes same all first within writes = record {
+  joined = record { nodes = sym nodes; ends = λ from to h. joins_nodes edges routes.nodes all from to ((same from to).1 h) };
+  ways = graph_ways body edges routes.graph.edges (subst (λ (l : List (ℕ × ℕ)). AreWays body l) (sym (e ∙ ap (λ (l : List (Point × Point)). map numbers l) s)) (listed_ways body)) same;
+  first = first;
+  within = within;
+  writes = writes;
 }

@@ -11,3 +11,7 @@ pub mod ExactLaws
 pub mod WriteWalks
 pub mod Variables
 pub mod Marks
+pub mod BitLaws
+pub mod DefinitionLaws
+pub mod ChunkLaws
+pub mod ChunkSteps

@@ -35,7 +35,7 @@ marks_of (loop n body continuing leave rest) = (n, Nothing) ∷ (marks_of body +
 marks_of no_part = []
 marks_of (part n which keys fallback body others) = marks_of body ++ marks_of others
 
-abbrev number : ℕ × Mark → ℕ
+abbrev pub number : ℕ × Mark → ℕ
 number x = x.0
 
 two_lists : (xs ys : List (ℕ × Mark)) (a b : List ℕ) → map number xs ≡ a → map number ys ≡ b → map number (xs ++ ys) ≡ a ++ b
@@ -249,7 +249,7 @@ mark_stopped (Hands n args) w h whole =
     hands_call args w.defined.variable r.0 r.1 r.2 (ap (λ (x : Write). x.whole) (sym r.3) ∙ whole) (ap (λ (x : Write). x.defined.variable) (sym r.3))
 
 -- the mark is that of the statement with the number
-abbrev Own : ℕ × Mark → Type 0
+abbrev pub Own : ℕ × Mark → Type 0
 Own x = (w : Write) → In w (mark_writes x.1) → statement_of w.defined.by ≡ Some x.0
 
 act_own : (n : ℕ) (act : Plain) → Own (n, mark_of n act)

@@ -30,14 +30,14 @@ in_push x y [] (inr m) = absurd m
 in_push x y (z ∷ xs) (inl e) = inl (inl e)
 in_push x y (z ∷ xs) (inr m) = elim (in_push x y xs m) [ inl h ↦ inl (inr h) | inr h ↦ inr h ]
 
-pub in_slice : (xs : List ℕ) (k x : ℕ) → slice_get xs k ≡ Some x → In x xs
+pub in_slice : {A : Type 0} (xs : List A) (k : ℕ) (x : A) → slice_get xs k ≡ Some x → In x xs
 in_slice [] k x e = cc
 in_slice (y ∷ xs) zero x e = inl cc
 in_slice (y ∷ xs) (suc k) x e = inr (in_slice xs k x e)
 
-pub slice_in : (xs : List ℕ) (x : ℕ) → In x xs → (k : ℕ) × (k < length xs) × (slice_get xs k ≡ Some x)
+pub slice_in : {A : Type 0} (xs : List A) (x : A) → In x xs → (k : ℕ) × (k < length xs) × (slice_get xs k ≡ Some x)
 slice_in [] x m = absurd m
-slice_in (y ∷ xs) x (inl e) = (0, omega arith, ap (λ (z : ℕ). Some z) (sym e))
+slice_in (y ∷ xs) x (inl e) = (0, omega arith, ap Some (sym e))
 slice_in (y ∷ xs) x (inr m) = let h : (k : ℕ) × (k < length xs) × (slice_get xs k ≡ Some x) = slice_in xs x m in (suc h.0, omega (arith, h.1), h.2)
 
 pub in_contains : (xs : List ℕ) (x : ℕ) → In x xs → Contains xs x

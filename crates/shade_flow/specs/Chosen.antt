@@ -22,10 +22,6 @@ abbrev pub before_of : ℕ → Base → List Chunk → List Definition
 before_of point variable [] = []
 before_of point variable (chunk ∷ later) = chosen variable (at chunk.rows.items point) 0 chunk.definitions.items ++ before_of point variable later
 
--- a chunk has at most 64 definitions, and a row for a point
-abbrev pub IsChunk : ℕ → Chunk → Type 0
-IsChunk point chunk = (length chunk.definitions.items ≤ 64) × (point < length chunk.rows.items)
-
 -- the definition stands among some, is of a variable, and its bit is in a row
 pub record IsChosen (variable : Base) (row bit : ℕ) (definitions : List Defined) (by : Definition) : Type 0 where
   pub place : ℕ
@@ -54,4 +50,4 @@ Ascends (first ∷ rest) = ((by : Definition) → In by rest → Precedes first 
 
 abbrev pub DefinedAscend : List Defined → Type 0
 DefinedAscend [] = Unit {0}
-DefinedAscend (first ∷ rest) = ((place : ℕ) (other : Defined) → slice_get rest place ≡ Some other → Precedes first.by other.by) × DefinedAscend rest
+DefinedAscend (first ∷ rest) = ((other : Defined) → In other rest → Precedes first.by other.by) × DefinedAscend rest

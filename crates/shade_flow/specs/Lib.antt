@@ -6,4 +6,6 @@ pub mod Steps
 pub mod Writes
 pub mod Tables
 pub mod Chosen
+pub mod Definitions
+pub mod Routes
 pub mod Exact

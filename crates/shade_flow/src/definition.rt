@@ -1,5 +1,8 @@
 //! What gives a variable its value.
 
+ghost use Rattle.std.specs.Prelude.{◌≡◌};
+ghost use Rattle.shade_flow.specs.Flow.{same_var};
+
 use shade_core::Base;
 
 /// What gives a variable, or a part of it, its value.
@@ -25,4 +28,16 @@ pub struct Defined {
 pub struct Write {
     pub defined: Defined,
     pub whole: bool,
+}
+
+/// Whether two variables are the same.
+pub fn same_variable(one: Base, other: Base) -> bool
+    ensures { result ≡ same_var one other }
+{
+    match (one, other) {
+        (Base::Local(i), Base::Local(j)) => i == j,
+        (Base::Module(i), Base::Module(j)) => i == j,
+        (Base::Pointee(i), Base::Pointee(j)) => i == j,
+        _ => false,
+    }
 }

@@ -1,18 +1,23 @@
-//! Which definitions reach the points of a function: 64 at a time, a bit each, by a worklist.
+//! Which definitions of a variable reach the statements of a function: 64 at a time, a bit each, by a worklist over the points at
+//! which a lane can stand.
 #![tactic(auto)]
 
 mod chunk;
+mod chunks;
 mod definition;
+mod definitions;
+mod kept;
 mod numbers;
 mod point;
+mod routes;
+mod search;
 mod steps;
+mod tables;
 mod work;
 mod writes;
 
-pub use chunk::{Chunk, before};
-pub use definition::{Defined, Definition, Write};
-pub use numbers::numbered;
+pub use definition::Definition;
+use definition::{Defined, Write};
+pub use kept::{Definitions, Reaching};
 pub use point::Point;
-pub use steps::function_steps;
-pub use work::reached;
-pub use writes::function_writes;
+pub use search::reaching;

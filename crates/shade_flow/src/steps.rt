@@ -24,6 +24,13 @@ pub fn function_steps(
     Ok(steps)
 }
 
+/// Where a function begins.
+pub fn function_entry(body: &Items<CoreStatement>) -> Point
+    ensures { result ≡ entry (code_of body.now) Past }
+{
+    entry_of(body, Point::Past)
+}
+
 fn add_step(from: Point, to: Point, steps: &mut Vec<(Point, Point)>) -> Result<(), AllocError>
     ensures { IfOk result (λ _. steps.new.items ≡ steps.old.items ++ (from, to) ∷ []) }
 {

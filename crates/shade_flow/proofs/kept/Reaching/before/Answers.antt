@@ -1,0 +1,5 @@
+use Rattle.shade_flow.proofs.ChunkLaws.{is_before}
+use Rattle.shade_flow.proofs.kept.Reaching.before.Goals as goal
+
+pub returns : goal.returns
+returns c = is_before c.args.statement c.args.variable _ _ _ c.in_ok-point.ensures c.in_ok-found.ensures

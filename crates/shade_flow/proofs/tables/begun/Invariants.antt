@@ -1,0 +1,6 @@
+use Rattle.std.proofs.Common.{◌≡◌}
+use Rattle.shade_flow.specs.Tables.{begun_at, AreBits}
+use Rattle.shade_flow.proofs.tables.begun.Given as goal
+
+abbrev pub invariant-loop-defined : goal.invariant-loop-defined
+invariant-loop-defined l = record { bit : l.bit ≡ l.defined-index; rows : AreBits (begun_at l.first) l.definitions l.defined-index l.nodes l.rows.items }

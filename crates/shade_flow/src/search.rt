@@ -1,0 +1,27 @@
+//! The search of a whole function.
+
+ghost use Rattle.std.specs.Prelude.{IfOk};
+ghost use Rattle.shade_core.specs.Code.{code_of};
+ghost use Rattle.shade_core.specs.Numbers.{IsNumbered};
+ghost use Rattle.shade_flow.specs.Exact.{IsReachingOf};
+
+use crate::chunks::chunks_of;
+use crate::definitions::function_definitions;
+use crate::kept::Reaching;
+use crate::routes::routes_of;
+use shade_core::CoreFunction;
+use std::alloc::{AllocError, Global};
+
+/// Searches which definitions of a function's tracked variables reach its statements.
+///
+/// Takes time and memory in the order of the function's points and statements that write, times the definitions by 64; one
+/// more pass over a chunk's points for each bit that is found late. No memory would do for a function of 2^31 statements.
+pub fn reaching(alloc: Global, function: &CoreFunction) -> Result<Reaching, AllocError>
+    requires { IsNumbered (code_of function.now.body) }
+    ensures { IfOk result (λ reaching. IsReachingOf function.now reaching) }
+{
+    let routes = routes_of(alloc, function)?;
+    let definitions = function_definitions(alloc, function, &routes.writes)?;
+    let chunks = chunks_of(alloc, &routes, &definitions)?;
+    Ok(Reaching { chunks })
+}
