@@ -1,4 +1,6 @@
 mod EndLaws
 mod FactLaws
+mod ScopeLaws
 mod StandingLaws
+mod Tells
 mod TypeLaws

@@ -64,11 +64,14 @@ fn is_bool(scalar: Scalar) -> bool
     }
 }
 
-fn fact_at(known: &[TypeFacts], id: TypeId) -> TypeFacts
-    requires { id.0 < length known.now }
+/// What holds of the type with an id, and of a pointer where no type has it. Takes no memory.
+pub(crate) fn fact_at(known: &[TypeFacts], id: TypeId) -> TypeFacts
     ensures { result ≡ fact_in known.now id }
 {
-    known[id.0 as usize]
+    match known.get(id.0 as usize) {
+        Some(fact) => *fact,
+        None => OF_POINTER,
+    }
 }
 
 /// Plain data of scalars.
@@ -135,7 +138,6 @@ fn of_runtime_array(element: TypeFacts) -> TypeFacts
 
 /// Whether some members are plain data, of which the last may be a runtime-sized array.
 fn end_well(known: &[TypeFacts], members: &[(Name, TypeId)]) -> bool
-    requires { AreKnown (length known.now) members.now }
     ensures { result ≡ ends_by known.now false members.now }
 {
     let mut ended = false;
@@ -153,28 +155,24 @@ fn end_well(known: &[TypeFacts], members: &[(Name, TypeId)]) -> bool
 }
 
 fn are_data(known: &[TypeFacts], members: &[(Name, TypeId)]) -> bool
-    requires { AreKnown (length known.now) members.now }
     ensures { result ≡ list_all (λ m. (fact_in known.now m.1).plain) members.now }
 {
     members.iter().all(|(_, id)| fact_at(known, *id).plain)
 }
 
 fn are_loadable(known: &[TypeFacts], members: &[(Name, TypeId)]) -> bool
-    requires { AreKnown (length known.now) members.now }
     ensures { result ≡ list_all (λ m. (fact_in known.now m.1).loadable) members.now }
 {
     members.iter().all(|(_, id)| fact_at(known, *id).loadable)
 }
 
 fn hold_bool(known: &[TypeFacts], members: &[(Name, TypeId)]) -> bool
-    requires { AreKnown (length known.now) members.now }
     ensures { result ≡ list_any (λ m. (fact_in known.now m.1).holds_bool) members.now }
 {
     members.iter().any(|(_, id)| fact_at(known, *id).holds_bool)
 }
 
 fn hold_atomic(known: &[TypeFacts], members: &[(Name, TypeId)]) -> bool
-    requires { AreKnown (length known.now) members.now }
     ensures { result ≡ list_any (λ m. (fact_in known.now m.1).holds_atomic) members.now }
 {
     members
@@ -183,7 +181,6 @@ fn hold_atomic(known: &[TypeFacts], members: &[(Name, TypeId)]) -> bool
 }
 
 fn of_struct(known: &[TypeFacts], members: &[(Name, TypeId)]) -> TypeFacts
-    requires { AreKnown (length known.now) members.now }
     ensures { result ≡ struct_facts known.now members.now }
 {
     TypeFacts {

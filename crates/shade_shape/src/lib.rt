@@ -5,6 +5,9 @@
 
 mod bodies;
 mod facts;
+mod limits;
+mod names;
+mod scopes;
 mod signature;
 mod standing;
 mod switches;
@@ -12,6 +15,8 @@ mod types;
 
 pub use bodies::{are_numbered, ends_with_return};
 pub use facts::{TableFacts, TypeFacts, facts_by, facts_of_types};
+pub use limits::{keeps_function_limits, lanes_of, local_bytes, space_bytes};
+pub use scopes::is_in_scope;
 pub use signature::{access_fits, has_lanes, is_pointer, is_signature, may_give, may_take};
 pub use standing::{Listed, statements_of};
 pub use switches::has_one_fallback;

@@ -1,6 +1,6 @@
 // What functions take and give.
 
-ghost use Rattle.std.specs.Prelude.{◌≡◌, ◌↔◌, ◌<◌, length, All, IsTrue};
+ghost use Rattle.std.specs.Prelude.{◌≡◌, ◌↔◌, All, IsTrue};
 ghost use Rattle.shade_core.specs.HasShape.{HasLanes, IsPointer, IsSignature, MayGive, MayTake, space_points};
 ghost use Rattle.shade_core.specs.Roots.{access_fits as access_fits_of};
 ghost use Rattle.shade_core.specs.Types.{NamesHeld};
@@ -23,7 +23,6 @@ pub fn access_fits(space: Space, access: Access) -> bool
 
 /// Whether a pointer into a space may point to the type with an id.
 fn may_point(types: &Types, space: Space, id: TypeId) -> bool
-    requires { id.0 < length types.now.types }
     ensures { result ≡ space_points space (shape_of types.now id) }
 {
     let facts = types.facts(id);
@@ -102,8 +101,14 @@ fn are_held(types: &Types, ids: &[TypeId]) -> bool
 pub fn is_signature(types: &Types, function: &CoreFunction) -> bool
     ensures { IsTrue result ↔ IsSignature types.now function.now }
 {
-    may_take_all(types, function.entry, function.params.as_slice())
-        && are_held(types, function.locals.as_slice())
-        && may_give(types, function.entry, function.result)
-        && has_lanes(function.entry)
+    if !may_take_all(types, function.entry, function.params.as_slice()) {
+        return false;
+    }
+    if !are_held(types, function.locals.as_slice()) {
+        return false;
+    }
+    if !may_give(types, function.entry, function.result) {
+        return false;
+    }
+    has_lanes(function.entry)
 }

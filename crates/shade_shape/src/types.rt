@@ -5,7 +5,7 @@ ghost use Rattle.shade_core.specs.Types.{NamesHeld, type_at};
 ghost use Rattle.shade_shape.specs.Facts.{facts_of};
 ghost use Rattle.shade_values.specs.Shape.{shape_of};
 
-use crate::facts::{TypeFacts, facts_of_types};
+use crate::facts::{TypeFacts, fact_at, facts_of_types};
 use shade_values::{ShadeType, TypeId, TypeTable};
 use std::alloc::{AllocError, Global};
 use std::marker::Model;
@@ -64,12 +64,11 @@ impl<'m> Types<'m> {
         }
     }
 
-    /// What holds of the type with an id. Takes no memory.
+    /// What holds of the type with an id, and of a pointer where no type has it. Takes no memory.
     pub fn facts(&self, id: TypeId) -> TypeFacts
-        requires { id.0 < length self.now.types }
         ensures { result ≡ facts_of (shape_of self.now id) }
     {
-        self.facts[id.0 as usize]
+        fact_at(&self.facts, id)
     }
 
     /// Whether an id names a type whose values a shader may hold. Takes no memory.
