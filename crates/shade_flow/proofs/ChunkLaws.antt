@@ -1,7 +1,6 @@
 -- What is kept of a function is right: each definition of a chunk has its bits, and what is read at a point is exact.
-use Rattle.std.proofs.Common.{◌≡◌, ℕ, zero, suc, ◌+◌, ◌*◌, ◌-◌, ◌^◌, ◌<◌, ◌≤◌, Bool, true, false, Option, None, Some, List, [], ◌∷◌, ◌++◌, length, get_or, refl, ap, sym, ◌∙◌, arith, subst, inl, inr}
-use Rattle.std.specs.Prelude.{slice_get, replicate, ◌⊎◌, All}
-use Rattle.std.specs.Int.{bit_at}
+use Rattle.std.proofs.Common.{◌≡◌, ℕ, zero, suc, ◌+◌, ◌*◌, ◌-◌, ◌^◌, ◌<◌, Bool, true, false, None, Some, List, [], ◌∷◌, length, refl, ap, sym, ◌∙◌, arith, subst, inl, inr}
+use Rattle.std.specs.Prelude.{slice_get, replicate, All}
 use Rattle.std.proofs.lemmas.Bool.{false≢true}
 use Rattle.std.proofs.lemmas.Option.{slice_get_within}
 use Rattle.std.proofs.lemmas.Nat.Bits.{bit_at_ones}
@@ -10,20 +9,19 @@ use Rattle.shade_core.specs.declared.statement.Base.{Base}
 use Rattle.shade_core.specs.declared.statement.Base.TheVariants.{Pointee}
 use Rattle.shade_core.specs.Code.{Code, code_of}
 use Rattle.shade_core.specs.Numbers.{IsNumbered}
-use Rattle.shade_reach.specs.Digraph.{JoinsNodes, SameEdges}
 use Rattle.shade_flow.specs.declared.definition.Definition.{Definition}
 use Rattle.shade_flow.specs.declared.definition.Definition.TheVariants as definition
 use Rattle.shade_flow.specs.declared.definition.Defined.{Defined}
 use Rattle.shade_flow.specs.declared.definition.Write.{Write}
 use Rattle.shade_flow.specs.declared.point.Point.{Point}
-use Rattle.shade_flow.specs.declared.point.Point.TheVariants.{At, Turn, Past}
+use Rattle.shade_flow.specs.declared.point.Point.TheVariants.{At, Past}
 use Rattle.shade_flow.specs.declared.chunk.Chunk.{Chunk}
 use Rattle.shade_flow.specs.declared.routes.Routes.{Routes}
 use Rattle.shade_flow.specs.Lists.{In}
 use Rattle.shade_flow.specs.Bits.{Has, at}
 use Rattle.shade_flow.specs.Flow.{Mark, entry, Ways, Makes, stops, Reaches}
-use Rattle.shade_flow.specs.Chosen.{before_of, Ascends, DefinedAscend}
-use Rattle.shade_flow.specs.Tables.{number, Joins, made_at, begun_at, IsBitOf, IsStop}
+use Rattle.shade_flow.specs.Chosen.{before_of, DefinedAscend}
+use Rattle.shade_flow.specs.Tables.{number, made_at, begun_at, IsBitOf, IsStop}
 use Rattle.shade_flow.specs.Writes.{defined, writes_of, statement_of}
 use Rattle.shade_flow.specs.Definitions.{tracked, all_kept, definitions_of}
 use Rattle.shade_flow.specs.Routes.{IsRoutesOf, IsSearched, defined_in}
@@ -155,9 +153,9 @@ module _ (body : Code) (numbered : IsNumbered body) (routes : Routes) (r : IsRou
       one : IsChunkOf body routes.graph.edges chunk
       one = record { starts = s.starts; makes = s.makes; passes = s.passes; reached = s.reached; bits = bits chunk s (λ d m. stand d (in_left d chunk.definitions.items (defined_in later) m)) }
 
-pub are_kept : (function : CoreFunction) (routes : Routes) (definitions : List Defined) (chunks : List Chunk) → IsNumbered (code_of function.body) → IsRoutesOf (code_of function.body) routes
+pub are_kept : (function : CoreFunction) (routes : Routes) (definitions : List Defined) (chunks : List Chunk) → IsRoutesOf (code_of function.body) routes
     → definitions ≡ all_kept function routes.writes.items → defined_in chunks ≡ definitions → All (IsSearched routes) chunks → AreKeptOf function chunks
-are_kept function routes definitions chunks numbered r e f all = record { numbered = numbered; edges = routes.graph.edges; ways = r.ways; right = chunks_right (code_of function.body) numbered routes r chunks all stand; all = is }
+are_kept function routes definitions chunks r e f all = record { edges = routes.graph.edges; ways = r.ways; right = λ numbered. chunks_right (code_of function.body) numbered routes r chunks all stand; all = is }
   where
     is : defined_in chunks ≡ definitions_of function
     is = f ∙ (e ∙ ap (λ (ws : List Write). all_kept function ws) r.writes)
@@ -166,14 +164,14 @@ are_kept function routes definitions chunks numbered r e f all = record { number
     stand d m = all_stand function (writes_of (code_of function.body)) d (subst (λ (l : List Defined). In d l) is m)
 
 pub is_before : (statement : ℕ) (variable : Base) (chunks : List Chunk) (found : List Definition) (point : ℕ) → point ≡ number (At statement) → found ≡ before_of point variable chunks
-    → (function : CoreFunction) → AreKeptOf function chunks → tracked function variable ≡ true → IsBefore function statement variable found
-is_before statement variable chunks found point p e function k t = subst (λ (l : List Definition). IsBefore function statement variable l) (sym (e ∙ ap (λ (n : ℕ). before_of n variable chunks) p)) (record {
+    → (function : CoreFunction) → AreKeptOf function chunks → IsNumbered (code_of function.body) → tracked function variable ≡ true → IsBefore function statement variable found
+is_before statement variable chunks found point p e function k numbered t = subst (λ (l : List Definition). IsBefore function statement variable l) (sym (e ∙ ap (λ (n : ℕ). before_of n variable chunks) p)) (record {
   exact = λ by. (
-    all_sound (code_of function.body) k.edges k.ways (At statement) variable chunks k.right by,
-    λ r. all_complete (code_of function.body) k.edges k.ways (At statement) variable chunks k.right by (there by r) r,
+    all_sound (code_of function.body) k.edges k.ways (At statement) variable chunks (k.right numbered) by,
+    λ r. all_complete (code_of function.body) k.edges k.ways (At statement) variable chunks (k.right numbered) by (there by r) r,
   );
-  ascends = before_ascends (number (At statement)) variable chunks (subst DefinedAscend (sym k.all) (definitions_ascend function k.numbered));
+  ascends = before_ascends (number (At statement)) variable chunks (subst DefinedAscend (sym k.all) (definitions_ascend function numbered));
 })
   where
     there : (by : Definition) → Reaches (code_of function.body) variable by (At statement) → In (defined variable by) (defined_in chunks)
-    there by r = subst (λ (l : List Defined). In (defined variable by) l) (sym k.all) (reaching_there function k.numbered variable t by (At statement) r)
+    there by r = subst (λ (l : List Defined). In (defined variable by) l) (sym k.all) (reaching_there function numbered variable t by (At statement) r)

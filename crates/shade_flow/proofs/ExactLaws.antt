@@ -1,5 +1,5 @@
 -- Chunks that are right list exactly the definitions that reach.
-use Rattle.std.proofs.Common.{◌≡◌, ℕ, ◌+◌, ◌<◌, true, Some, List, [], ◌∷◌, ◌++◌, refl, sym, arith, subst, inl, inr, length}
+use Rattle.std.proofs.Common.{◌≡◌, ℕ, ◌+◌, ◌<◌, Some, List, [], ◌∷◌, ◌++◌, refl, sym, arith, subst, inl, inr, length}
 use Rattle.std.specs.Prelude.{slice_get}
 use Rattle.shade_core.specs.declared.statement.Base.{Base}
 use Rattle.shade_core.specs.Code.{Code}
@@ -8,7 +8,7 @@ use Rattle.shade_flow.specs.declared.definition.Defined.{Defined}
 use Rattle.shade_flow.specs.declared.point.Point.{Point}
 use Rattle.shade_flow.specs.declared.chunk.Chunk.{Chunk}
 use Rattle.shade_flow.specs.Bits.{Has, at}
-use Rattle.shade_flow.specs.Flow.{same_var, Reaches}
+use Rattle.shade_flow.specs.Flow.{Reaches}
 use Rattle.shade_flow.specs.Lists.{In}
 use Rattle.shade_flow.specs.Chosen.{chosen, IsChosen, before_of, Precedes, Ascends, DefinedAscend}
 use Rattle.shade_flow.specs.Writes.{defined}

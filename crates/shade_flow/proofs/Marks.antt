@@ -5,7 +5,6 @@ use Rattle.std.proofs.lemmas.List.{map-append}
 use Rattle.std.proofs.lemmas.Bool.{false≢true}
 use Rattle.shade_core.specs.declared.statement.Base.{Base}
 use Rattle.shade_core.specs.declared.statement.View.{View}
-use Rattle.shade_core.specs.declared.statement.ViewStep.{ViewStep}
 use Rattle.shade_core.specs.declared.statement.Argument.{Argument}
 use Rattle.shade_core.specs.declared.statement.Argument.TheVariants as argument
 use Rattle.shade_core.specs.Code.{Plain, Set, Load, Declare, Store, Atomic, Barrier, UniformLoad, Length, Code, done, plain, jump, call, branch, switch, loop, no_part, part}
@@ -149,19 +148,21 @@ of_all [] w x m h = absurd m
 of_all (y ∷ ms) w x (inl e) h = in_left w (mark_writes y.1) (all_writes ms) (subst (λ (p : ℕ × Mark). In w (mark_writes p.1)) e h)
 of_all (y ∷ ms) w x (inr m) h = in_right w (mark_writes y.1) (all_writes ms) (of_all ms w x m h)
 
+-- a call, whose arguments are numbered from j on, writes this through one of them
+abbrev pub Written : ℕ → ℕ → List Argument → Write → Type 0
+Written n j args w = (k : ℕ) × (view : View) × (slice_get args k ≡ Some (argument.Pointer view)) × (w ≡ write view.base (definition.Argument n (j + k)) (is_whole view.steps))
+
 -- what a call writes, argument by argument
-pub call_made : (n j : ℕ) (args : List Argument) (w : Write) → In w (call_writes n j args)
-    → (k : ℕ) × (view : View) × (slice_get args k ≡ Some (argument.Pointer view)) × (w ≡ write view.base (definition.Argument n (j + k)) (is_whole view.steps))
+pub call_made : (n j : ℕ) (args : List Argument) (w : Write) → In w (call_writes n j args) → Written n j args w
 call_made n j [] w h = absurd h
 call_made n j (arg ∷ args) w h = by arg (λ after. call_made n (j + 1) args w after) (in_split w (writes_through (definition.Argument n j) arg) (call_writes n (j + 1) args) h)
   where
-    by : (arg : Argument) → (In w (call_writes n (j + 1) args) → (k : ℕ) × (view : View) × (slice_get args k ≡ Some (argument.Pointer view)) × (w ≡ write view.base (definition.Argument n ((j + 1) + k)) (is_whole view.steps))) → In w (writes_through (definition.Argument n j) arg) ⊎ In w (call_writes n (j + 1) args)
-        → (k : ℕ) × (view : View) × (slice_get (arg ∷ args) k ≡ Some (argument.Pointer view)) × (w ≡ write view.base (definition.Argument n (j + k)) (is_whole view.steps))
+    by : (arg : Argument) → (In w (call_writes n (j + 1) args) → Written n (j + 1) args w) → In w (writes_through (definition.Argument n j) arg) ⊎ In w (call_writes n (j + 1) args) → Written n j (arg ∷ args) w
     by (argument.Plain operand) more (inl here) = absurd here
     by (argument.Pointer view) more (inl (inl e)) = let same : j ≡ j + 0 = omega arith in (0, view, refl, e ∙ ap (λ (i : ℕ). write view.base (definition.Argument n i) (is_whole view.steps)) same)
     by (argument.Pointer view) more (inl (inr h)) = absurd h
     by arg more (inr after) =
-        let r : (k : ℕ) × (view : View) × (slice_get args k ≡ Some (argument.Pointer view)) × (w ≡ write view.base (definition.Argument n ((j + 1) + k)) (is_whole view.steps)) = more after in
+        let r : Written n (j + 1) args w = more after in
         let same : (j + 1) + r.0 ≡ j + suc r.0 = omega arith in
         (suc r.0, r.1, r.2, r.3 ∙ ap (λ (i : ℕ). write r.1.base (definition.Argument n i) (is_whole r.1.steps)) same)
 
@@ -178,17 +179,19 @@ call_makes n j (arg ∷ args) (suc k) view e =
     (subst (λ (i : ℕ). In (write view.base (definition.Argument n i) (is_whole view.steps)) (call_writes n (j + 1) args)) same (call_makes n (j + 1) args k view e))
 
 -- one of the arguments points to the whole of a variable
-pub call_hands : (args : List Argument) (variable : Base) → handed args variable ≡ true → (k : ℕ) × (view : View) × (slice_get args k ≡ Some (argument.Pointer view)) × (is_whole view.steps ≡ true) × (view.base ≡ variable)
+abbrev Handed : List Argument → Base → Type 0
+Handed args variable = (k : ℕ) × (view : View) × (slice_get args k ≡ Some (argument.Pointer view)) × (is_whole view.steps ≡ true) × (view.base ≡ variable)
+
+pub call_hands : (args : List Argument) (variable : Base) → handed args variable ≡ true → Handed args variable
 call_hands [] variable e = cc
 call_hands (argument.Plain operand ∷ args) variable e =
-    let r : (k : ℕ) × (view : View) × (slice_get args k ≡ Some (argument.Pointer view)) × (is_whole view.steps ≡ true) × (view.base ≡ variable) = call_hands args variable e in (suc r.0, r.1, r.2, r.3, r.4)
+    let r : Handed args variable = call_hands args variable e in (suc r.0, r.1, r.2, r.3, r.4)
 call_hands (argument.Pointer view ∷ args) variable e = by (is_whole view.steps) (same_var view.base variable) (λ g. call_hands args variable g) refl refl e
   where
-    by : (a b : Bool) → (handed args variable ≡ true → (k : ℕ) × (other : View) × (slice_get args k ≡ Some (argument.Pointer other)) × (is_whole other.steps ≡ true) × (other.base ≡ variable)) → a ≡ is_whole view.steps → b ≡ same_var view.base variable → ((a && b) || handed args variable) ≡ true
-        → (k : ℕ) × (other : View) × (slice_get (argument.Pointer view ∷ args) k ≡ Some (argument.Pointer other)) × (is_whole other.steps ≡ true) × (other.base ≡ variable)
+    by : (a b : Bool) → (handed args variable ≡ true → Handed args variable) → a ≡ is_whole view.steps → b ≡ same_var view.base variable → ((a && b) || handed args variable) ≡ true → Handed (argument.Pointer view ∷ args) variable
     by true true more whole same e = (0, view, refl, sym whole, same_is view.base variable (sym same))
-    by true false more whole same e = let r : (k : ℕ) × (other : View) × (slice_get args k ≡ Some (argument.Pointer other)) × (is_whole other.steps ≡ true) × (other.base ≡ variable) = more e in (suc r.0, r.1, r.2, r.3, r.4)
-    by false b more whole same e = let r : (k : ℕ) × (other : View) × (slice_get args k ≡ Some (argument.Pointer other)) × (is_whole other.steps ≡ true) × (other.base ≡ variable) = more e in (suc r.0, r.1, r.2, r.3, r.4)
+    by true false more whole same e = let r : Handed args variable = more e in (suc r.0, r.1, r.2, r.3, r.4)
+    by false b more whole same e = let r : Handed args variable = more e in (suc r.0, r.1, r.2, r.3, r.4)
 
 pub hands_call : (args : List Argument) (variable : Base) (k : ℕ) (view : View) → slice_get args k ≡ Some (argument.Pointer view) → is_whole view.steps ≡ true → view.base ≡ variable → handed args variable ≡ true
 hands_call [] variable k view e whole same = cc
@@ -224,7 +227,7 @@ mark_made Nothing w h = absurd h
 mark_made (Stores n other steps) w (inl e) = (ap (λ (x : Write). x.defined.variable) (sym e), ap (λ (x : Write). x.defined.by) e)
 mark_made (Stores n other steps) w (inr h) = absurd h
 mark_made (Hands n args) w h =
-    let r : (k : ℕ) × (view : View) × (slice_get args k ≡ Some (argument.Pointer view)) × (w ≡ write view.base (definition.Argument n (0 + k)) (is_whole view.steps)) = call_made n 0 args w h in
+    let r : Written n 0 args w = call_made n 0 args w h in
     let same : 0 + r.0 ≡ r.0 = omega arith in
     (r.0, argument.Pointer r.1, r.2, ap (λ (x : Write). x.defined.variable) (sym r.3), ap (λ (x : Write). x.defined.by) r.3 ∙ ap (λ (k : ℕ). definition.Argument n k) same)
 
@@ -234,7 +237,7 @@ mark_stops (Stores n other steps) variable e =
     let b : (is_whole steps ≡ true) × (same_var other variable ≡ true) = both_true (is_whole steps) (same_var other variable) e in
     (write other (definition.At n) (is_whole steps), inl refl, b.0, same_is other variable b.1)
 mark_stops (Hands n args) variable e =
-    let r : (k : ℕ) × (view : View) × (slice_get args k ≡ Some (argument.Pointer view)) × (is_whole view.steps ≡ true) × (view.base ≡ variable) = call_hands args variable e in
+    let r : Handed args variable = call_hands args variable e in
     (write r.1.base (definition.Argument n (0 + r.0)) (is_whole r.1.steps), call_makes n 0 args r.0 r.1 r.2, r.3, r.4)
 
 pub mark_stopped : (m : Mark) (w : Write) → In w (mark_writes m) → w.whole ≡ true → stops m w.defined.variable ≡ true
@@ -245,7 +248,7 @@ mark_stopped (Stores n other steps) w (inl e) whole =
     rw (all, one) (same_self other)
 mark_stopped (Stores n other steps) w (inr h) whole = absurd h
 mark_stopped (Hands n args) w h whole =
-    let r : (k : ℕ) × (view : View) × (slice_get args k ≡ Some (argument.Pointer view)) × (w ≡ write view.base (definition.Argument n (0 + k)) (is_whole view.steps)) = call_made n 0 args w h in
+    let r : Written n 0 args w = call_made n 0 args w h in
     hands_call args w.defined.variable r.0 r.1 r.2 (ap (λ (x : Write). x.whole) (sym r.3) ∙ whole) (ap (λ (x : Write). x.defined.variable) (sym r.3))
 
 -- the mark is that of the statement with the number
@@ -266,7 +269,7 @@ act_own n (Length view) w h = absurd h
 
 call_own : (n : ℕ) (args : List Argument) → Own (n, Hands n args)
 call_own n args w h =
-    let r : (k : ℕ) × (view : View) × (slice_get args k ≡ Some (argument.Pointer view)) × (w ≡ write view.base (definition.Argument n (0 + k)) (is_whole view.steps)) = call_made n 0 args w h in
+    let r : Written n 0 args w = call_made n 0 args w h in
     ap (λ (x : Write). statement_of x.defined.by) r.3
 
 at_is : (x y : ℕ × Mark) → x ≡ y → Own y → Own x

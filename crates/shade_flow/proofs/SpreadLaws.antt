@@ -5,11 +5,11 @@ use Rattle.std.proofs.lemmas.Bool.Decides.{eqb_tells}
 use Rattle.std.proofs.lemmas.List.{length-set}
 use Rattle.shade_flow.specs.Bits.{Has, at}
 use Rattle.shade_flow.specs.Lists.{In}
-use Rattle.shade_flow.specs.Work.{Within, work, Adds, Spreads}
+use Rattle.shade_flow.specs.Work.{Within, work, Adds, Spread}
 use Rattle.shade_flow.proofs.Members.{in_left, in_last, in_push, in_slice, at_set_same, at_set_other}
 use Rattle.shade_flow.proofs.Words.{within_self, or_left, or_right, or_cases, slack_less, grown_more}
 
-pub spreads_none : (rows queue : List ℕ) (word : ℕ) (targets : List ℕ) → Spreads rows queue word targets 0 rows queue
+pub spreads_none : (rows queue : List ℕ) (word : ℕ) (targets : List ℕ) → Spread rows queue word targets 0 rows queue
 spreads_none rows queue word targets = record {
   long = refl;
   grows = λ point. within_self (at rows point);
@@ -43,8 +43,8 @@ module _ (rows : List ℕ) (target word : ℕ) (below : target < length rows) wh
   ]
 
 pub spreads_more : (rows queue : List ℕ) (word : ℕ) (targets : List ℕ) (index : ℕ) (now_rows now_queue new_rows new_queue : List ℕ) (target : ℕ)
-    → Spreads rows queue word targets index now_rows now_queue → slice_get targets index ≡ Some target → target < length now_rows
-    → Adds now_rows now_queue target word new_rows new_queue → Spreads rows queue word targets (index + 1) new_rows new_queue
+    → Spread rows queue word targets index now_rows now_queue → slice_get targets index ≡ Some target → target < length now_rows
+    → Adds now_rows now_queue target word new_rows new_queue → Spread rows queue word targets (index + 1) new_rows new_queue
 spreads_more rows queue word targets index now_rows now_queue new_rows new_queue target s at_index below (inl same) = rw (same.1, same.2) (record {
   long = s.long;
   grows = s.grows;

@@ -1,6 +1,5 @@
 -- The list of ways holds exactly the ways.
-use Rattle.std.proofs.Common.{◌≡◌, ℕ, Option, None, Some, List, [], ◌∷◌, ◌++◌, refl, sym, subst, inl, inr}
-use Rattle.std.specs.Prelude.{◌⊎◌}
+use Rattle.std.proofs.Common.{◌≡◌, ℕ, Option, None, Some, refl, sym, subst, inl, inr}
 use Rattle.shade_core.specs.declared.statement.Operand.{Operand}
 use Rattle.shade_core.specs.Code.{Code, done, plain, jump, call, branch, switch, loop, no_part, part}
 use Rattle.shade_flow.specs.declared.point.Point.{Point}

@@ -6,7 +6,7 @@ use Rattle.std.proofs.lemmas.List.Elements.{All-contains}
 use Rattle.shade_reach.specs.Digraph.{HasEdge, IsTargets, JoinsNodes}
 use Rattle.shade_flow.specs.Bits.{Has, at, begins, made, goes, BitArrives, AreReached}
 use Rattle.shade_flow.specs.Lists.{In}
-use Rattle.shade_flow.specs.Work.{Within, Holds, handed, Spreads, IsWork}
+use Rattle.shade_flow.specs.Work.{Within, Holds, handed, Spread, IsWork}
 use Rattle.shade_flow.proofs.Members.{in_left, in_last, in_push, slice_in, contains_in, in_contains}
 use Rattle.shade_flow.proofs.Words.{within_self, or_left, or_right, and_both, handed_cases}
 
@@ -32,7 +32,7 @@ popped_below edges starts makes passes rows queue rest point w popped = w.inside
 pub work_goes : (edges : List (ℕ × ℕ)) (starts makes passes rows queue rest : List ℕ) (point word nodes : ℕ) (targets new_rows new_queue : List ℕ)
     → IsWork edges starts makes passes rows queue → queue ≡ rest ++ point ∷ [] → word ≡ handed (at rows point) (at passes point) (at makes point)
     → IsTargets edges point targets → All (λ (target : ℕ). target < nodes) targets → length starts ≡ nodes
-    → Spreads rows rest word targets (length targets) new_rows new_queue → IsWork edges starts makes passes new_rows new_queue
+    → Spread rows rest word targets (length targets) new_rows new_queue → IsWork edges starts makes passes new_rows new_queue
 work_goes edges starts makes passes rows queue rest point word nodes targets new_rows new_queue w popped is t all long s = record {
   long = s.long ∙ w.long;
   inside = inside;

@@ -1,5 +1,5 @@
 -- What one statement before others adds to the list of writes.
-use Rattle.std.proofs.Common.{◌≡◌, ℕ, suc, zero, ◌+◌, ◌<◌, List, [], ◌∷◌, ◌++◌, length, get_or, drop, map, refl, ap, sym, ◌∙◌, append_assoc}
+use Rattle.std.proofs.Common.{◌≡◌, ℕ, ◌+◌, ◌<◌, List, [], ◌∷◌, ◌++◌, length, get_or, drop, map, refl, ap, sym, ◌∙◌, append_assoc}
 use Rattle.shade_core.specs.declared.statement.Act.{Act, Act-F, out-Act}
 use Rattle.shade_core.specs.declared.statement.Act.TheOpen as act
 use Rattle.shade_core.specs.declared.statement.Argument.{Argument}

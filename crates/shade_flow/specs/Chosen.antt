@@ -1,5 +1,5 @@
 -- The definitions of a variable whose bits are there, in order.
-use Rattle.std.specs.Prelude.{◌≡◌, ℕ, ◌+◌, ◌<◌, ◌≤◌, ◌⊎◌, true, ◌&&◌, if◌then◌else◌, nat_eq, Some, slice_get, List, [], ◌∷◌, ◌++◌, length}
+use Rattle.std.specs.Prelude.{◌≡◌, ℕ, ◌+◌, ◌<◌, ◌⊎◌, true, ◌&&◌, if◌then◌else◌, nat_eq, Some, slice_get, List, [], ◌∷◌, ◌++◌}
 use Rattle.std.specs.Int.{bit_at}
 use Rattle.shade_core.specs.declared.statement.Base.{Base}
 use Rattle.shade_flow.specs.declared.definition.Definition.{Definition}

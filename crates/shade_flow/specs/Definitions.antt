@@ -1,13 +1,12 @@
 -- The definitions of a function's tracked variables, in their order.
-use Rattle.std.specs.Prelude.{◌≡◌, ℕ, ◌+◌, ◌<◌, Bool, true, false, ◌&&◌, nat_lt, if◌then◌else◌, Option, Some, None, List, [], ◌∷◌, ◌++◌, ◌↔◌, length, slice_get}
-use Rattle.shade_values.specs.declared.types.Space.{Space}
+use Rattle.std.specs.Prelude.{ℕ, ◌+◌, Bool, true, false, ◌&&◌, nat_lt, if◌then◌else◌, Option, Some, None, List, [], ◌∷◌, ◌++◌, length, slice_get}
 use Rattle.shade_values.specs.declared.types.Space.TheVariants as space
 use Rattle.shade_core.specs.declared.statement.Base.{Base}
 use Rattle.shade_core.specs.declared.statement.Base.TheVariants.{Local, Module, Pointee}
 use Rattle.shade_core.specs.declared.module.CoreFunction.{CoreFunction}
 use Rattle.shade_core.specs.declared.module.CoreParam.{CoreParam}
 use Rattle.shade_core.specs.declared.module.CoreParam.TheVariants as param
-use Rattle.shade_core.specs.Code.{Code, code_of}
+use Rattle.shade_core.specs.Code.{code_of}
 use Rattle.shade_flow.specs.declared.definition.Definition.{Definition}
 use Rattle.shade_flow.specs.declared.definition.Definition.TheVariants.{Entry, At, Argument}
 use Rattle.shade_flow.specs.declared.definition.Defined.{Defined}
@@ -47,10 +46,14 @@ same_bool true b = b
 same_bool false true = false
 same_bool false false = true
 
+-- the definition of a write, where it is of a tracked variable and by a call, or by another statement
+abbrev pub kept_one : CoreFunction → Bool → Write → List Defined
+kept_one function calls write = if tracked function write.defined.variable && same_bool (by_call write.defined.by) calls then write.defined ∷ [] else []
+
 -- of some writes the definitions of tracked variables, those by calls or the others
 abbrev pub kept : CoreFunction → Bool → List Write → List Defined
 kept function calls [] = []
-kept function calls (write ∷ later) = (if tracked function write.defined.variable && same_bool (by_call write.defined.by) calls then write.defined ∷ [] else []) ++ kept function calls later
+kept function calls (write ∷ later) = kept_one function calls write ++ kept function calls later
 
 -- entries, then statements, then arguments of calls
 abbrev pub all_kept : CoreFunction → List Write → List Defined

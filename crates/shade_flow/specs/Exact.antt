@@ -1,5 +1,5 @@
 -- Chunks of definitions whose rows are right, and the list that is made of them.
-use Rattle.std.specs.Prelude.{◌≡◌, ℕ, ◌↔◌, Some, slice_get, List, [], ◌∷◌}
+use Rattle.std.specs.Prelude.{◌≡◌, ℕ, ◌↔◌, true, Some, slice_get, List, [], ◌∷◌}
 use Rattle.shade_core.specs.declared.module.CoreFunction.{CoreFunction}
 use Rattle.shade_core.specs.declared.statement.Base.{Base}
 use Rattle.shade_core.specs.Code.{Code, code_of}
@@ -13,7 +13,7 @@ use Rattle.shade_flow.specs.Lists.{In}
 use Rattle.shade_flow.specs.Bits.{AreReached}
 use Rattle.shade_flow.specs.Flow.{Reaches}
 use Rattle.shade_flow.specs.Chosen.{Ascends}
-use Rattle.shade_flow.specs.Definitions.{definitions_of}
+use Rattle.shade_flow.specs.Definitions.{tracked, definitions_of}
 use Rattle.shade_flow.specs.Routes.{defined_in}
 use Rattle.shade_flow.specs.Tables.{AreWays, IsBitOf}
 
@@ -29,12 +29,11 @@ abbrev pub AreChunksOf : Code → List (ℕ × ℕ) → List Chunk → Type 0
 AreChunksOf body edges [] = Unit {0}
 AreChunksOf body edges (chunk ∷ later) = IsChunkOf body edges chunk × AreChunksOf body edges later
 
--- What is kept of a function: all its definitions in order, each with right bits.
+-- What is kept of a function: all its definitions in order, each with right bits if the function's statements are numbered in order.
 pub record AreKeptOf (function : CoreFunction) (chunks : List Chunk) : Type 0 where
-  pub numbered : IsNumbered (code_of function.body)
   pub edges : List (ℕ × ℕ)
   pub ways : AreWays (code_of function.body) edges
-  pub right : AreChunksOf (code_of function.body) edges chunks
+  pub right : IsNumbered (code_of function.body) → AreChunksOf (code_of function.body) edges chunks
   pub all : defined_in chunks ≡ definitions_of function
 
 abbrev pub IsReachingOf : CoreFunction → Reaching → Type 0
@@ -44,3 +43,9 @@ IsReachingOf function reaching = AreKeptOf function reaching.chunks.items
 pub record IsBefore (function : CoreFunction) (statement : ℕ) (variable : Base) (found : List Definition) : Type 0 where
   pub exact : (by : Definition) → In by found ↔ Reaches (code_of function.body) variable by (At statement)
   pub ascends : Ascends found
+
+-- What is read of something kept: for each function of which that is kept, whose statements are numbered in structure order, and
+-- each tracked variable of it, exactly the definitions that reach.
+abbrev pub IsReadOf : Reaching → ℕ → Base → List Definition → Type 0
+IsReadOf kept statement variable found =
+    (function : CoreFunction) → IsReachingOf function kept → IsNumbered (code_of function.body) → tracked function variable ≡ true → IsBefore function statement variable found

@@ -1,5 +1,5 @@
 -- The list of the ways of a function, in the order in which a walk over its statements meets them.
-use Rattle.std.specs.Prelude.{◌≡◌, ℕ, ◌⊎◌, Option, Some, None, List, [], ◌∷◌, ◌++◌, map}
+use Rattle.std.specs.Prelude.{ℕ, Option, Some, None, List, [], ◌∷◌, ◌++◌, map}
 use Rattle.shade_core.specs.declared.statement.Operand.{Operand}
 use Rattle.shade_core.specs.declared.statement.Act.{Act, Act-F}
 use Rattle.shade_core.specs.declared.statement.Act.TheOpen as act

@@ -32,7 +32,7 @@ Adds rows queue point word new_rows new_queue =
     ⊎ ((bit_or (at rows point) word ≢ at rows point) × (at rows point < 2 ^ 64) × (new_rows ≡ slice_set rows point (bit_or (at rows point) word)) × (new_queue ≡ queue ++ point ∷ []))
 
 -- a word is added to the rows of the first targets, and those that grew wait
-pub record Spreads (rows queue : List ℕ) (word : ℕ) (targets : List ℕ) (index : ℕ) (new_rows new_queue : List ℕ) : Type 0 where
+pub record Spread (rows queue : List ℕ) (word : ℕ) (targets : List ℕ) (index : ℕ) (new_rows new_queue : List ℕ) : Type 0 where
   pub long : length new_rows ≡ length rows
   pub grows : (point : ℕ) → Within (at rows point) (at new_rows point)
   pub from : (point bit : ℕ) → Has (at new_rows point) bit → Has (at rows point) bit ⊎ (In point targets × Has word bit)

@@ -1,10 +1,8 @@
 -- The list of a function's writes, in the order in which a walk over its statements meets them, and the definitions of its tracked
 -- variables that are made of it.
-use Rattle.std.specs.Prelude.{◌≡◌, ℕ, ◌+◌, ◌<◌, Bool, true, false, ◌&&◌, ◌⊎◌, nat_lt, if◌then◌else◌, Option, Some, None, List, [], ◌∷◌, ◌++◌, map, flat_map, length, slice_get}
-use Rattle.shade_values.specs.declared.types.Space.TheVariants as space
-use Rattle.shade_core.specs.declared.statement.Operand.{Operand}
+use Rattle.std.specs.Prelude.{ℕ, ◌+◌, Bool, true, Option, Some, None, List, [], ◌∷◌, ◌++◌, map}
 use Rattle.shade_core.specs.declared.statement.Base.{Base}
-use Rattle.shade_core.specs.declared.statement.Base.TheVariants.{Local, Module, Pointee}
+use Rattle.shade_core.specs.declared.statement.Base.TheVariants.{Local}
 use Rattle.shade_core.specs.declared.statement.Argument.{Argument}
 use Rattle.shade_core.specs.declared.statement.Argument.TheVariants as argument
 use Rattle.shade_core.specs.declared.statement.Act.{Act, Act-F}

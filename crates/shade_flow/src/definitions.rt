@@ -1,10 +1,10 @@
 //! The definitions of a function's tracked variables.
 
-ghost use Rattle.std.specs.Prelude.{◌≡◌, ◌++◌, ◌∷◌, ◌&&◌, [], IfOk, if◌then◌else◌, slice_get};
+ghost use Rattle.std.specs.Prelude.{◌≡◌, ◌++◌, ◌∷◌, [], IfOk, if◌then◌else◌, slice_get};
 ghost use Rattle.shade_core.specs.declared.statement.Base.TheVariants.{Pointee};
 ghost use Rattle.shade_flow.specs.declared.definition.Definition.TheVariants.{Entry};
 ghost use Rattle.shade_flow.specs.Writes.{defined};
-ghost use Rattle.shade_flow.specs.Definitions.{points, points_there, tracked, entries_from, by_call, same_bool, kept, all_kept};
+ghost use Rattle.shade_flow.specs.Definitions.{points, points_there, tracked, entries_from, by_call, same_bool, kept_one, kept, all_kept};
 
 use crate::{Defined, Definition, Write};
 use shade_core::{Base, CoreFunction, CoreParam};
@@ -90,7 +90,7 @@ fn add_write(
     write: Write,
     out: &mut Vec<Defined>,
 ) -> Result<(), AllocError>
-    ensures { IfOk result (λ _. out.new.items ≡ out.old.items ++ (if tracked function.now write.defined.variable && same_bool (by_call write.defined.by) calls then write.defined ∷ [] else [])) }
+    ensures { IfOk result (λ _. out.new.items ≡ out.old.items ++ kept_one function.now calls write) }
 {
     if is_tracked(function, write.defined.variable)
         && is_same(is_by_call(write.defined.by), calls)

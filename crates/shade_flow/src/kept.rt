@@ -1,9 +1,7 @@
 //! The definitions that reach, in order.
 
-ghost use Rattle.std.specs.Prelude.{◌≡◌, true, IfOk};
-ghost use Rattle.shade_core.specs.declared.module.CoreFunction.{CoreFunction};
-ghost use Rattle.shade_flow.specs.Definitions.{tracked};
-ghost use Rattle.shade_flow.specs.Exact.{IsReachingOf, IsBefore};
+ghost use Rattle.std.specs.Prelude.{◌≡◌, IfOk};
+ghost use Rattle.shade_flow.specs.Exact.{IsReadOf};
 
 use crate::chunk::Chunk;
 use crate::chunks::definitions_before;
@@ -59,7 +57,8 @@ pub struct Reaching {
 }
 
 impl Reaching {
-    /// Gives the definitions of a tracked variable that reach the point before a statement, in their order.
+    /// Gives the definitions of a tracked variable that reach the point before a statement, in their order, if the statements
+    /// of the function are numbered in structure order.
     ///
     /// Takes memory for those definitions alone.
     pub fn before(
@@ -68,7 +67,7 @@ impl Reaching {
         statement: u32,
         variable: Base,
     ) -> Result<Definitions, AllocError>
-        ensures { IfOk result (λ found. (function : CoreFunction) → IsReachingOf function self.now → tracked function variable ≡ true → IsBefore function statement variable found) }
+        ensures { IfOk result (IsReadOf self.now statement variable) }
     {
         let point = number_of(Point::At(statement))?;
         let found = definitions_before(alloc, &self.chunks, point, variable)?;

@@ -1,8 +1,6 @@
 //! The search of a whole function.
 
 ghost use Rattle.std.specs.Prelude.{IfOk};
-ghost use Rattle.shade_core.specs.Code.{code_of};
-ghost use Rattle.shade_core.specs.Numbers.{IsNumbered};
 ghost use Rattle.shade_flow.specs.Exact.{IsReachingOf};
 
 use crate::chunks::chunks_of;
@@ -14,10 +12,11 @@ use std::alloc::{AllocError, Global};
 
 /// Searches which definitions of a function's tracked variables reach its statements.
 ///
+/// What is kept is right for a function whose statements are numbered in structure order.
+///
 /// Takes time and memory in the order of the function's points and statements that write, times the definitions by 64; one
 /// more pass over a chunk's points for each bit that is found late. No memory would do for a function of 2^31 statements.
 pub fn reaching(alloc: Global, function: &CoreFunction) -> Result<Reaching, AllocError>
-    requires { IsNumbered (code_of function.now.body) }
     ensures { IfOk result (λ reaching. IsReachingOf function.now reaching) }
 {
     let routes = routes_of(alloc, function)?;

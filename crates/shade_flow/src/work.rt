@@ -3,7 +3,7 @@
 ghost use Rattle.std.specs.Prelude.{◌≡◌, ◌<◌, ℕ, All, IfOk, OnOk, length, vec_len, slice_index_or};
 ghost use Rattle.shade_reach.specs.Digraph.{JoinsNodes};
 ghost use Rattle.shade_flow.specs.Bits.{AreReached};
-ghost use Rattle.shade_flow.specs.Work.{Adds, Spreads, Holds, handed};
+ghost use Rattle.shade_flow.specs.Work.{Adds, Spread, Holds, handed};
 
 use shade_reach::Graph;
 use std::alloc::{AllocError, Global};
@@ -34,7 +34,7 @@ impl Work {
     /// Adds a word to the rows of some points.
     fn spread(&mut self, targets: &[u32], word: u64) -> Result<(), AllocError>
         requires { All (λ target. target < vec_len self.old.rows) targets.now }
-        ensures { OnOk result (Spreads self.old.rows.items self.old.queue.items word targets.now (length targets.now) self.new.rows.items self.new.queue.items) }
+        ensures { OnOk result (Spread self.old.rows.items self.old.queue.items word targets.now (length targets.now) self.new.rows.items self.new.queue.items) }
     {
         for target in targets {
             self.add(*target, word)?;

@@ -18,7 +18,10 @@ pub targets-requires : goal.targets-requires
 targets-requires c = omega (arith, popped_below _ _ _ _ _ _ _ _ c.points.invariant c.in-Some.ensures.items, c.requires.starts)
 
 pub points-preserved : goal.points-preserved
-points-preserved c = work_goes _ _ _ _ _ _ _ _ _ _ _ _ _ c.points.invariant c.in-Some.ensures.items (handed_is _ _ _ _ _ _ _ (popped_below _ _ _ _ _ _ _ _ c.points.invariant c.in-Some.ensures.items) c.points.invariant.long c.index.ensures c.handed_on-word.ensures) c.targets.ensures.targets c.targets.ensures.nodes (omega (arith, c.requires.starts)) c.in_ok-spread.ensures
+points-preserved c =
+    let below = popped_below _ _ _ _ _ _ _ _ c.points.invariant c.in-Some.ensures.items in
+    let word = handed_is _ _ _ _ _ _ _ below c.points.invariant.long c.index.ensures c.handed_on-word.ensures in
+    work_goes _ _ _ _ _ _ _ _ _ _ _ _ _ c.points.invariant c.in-Some.ensures.items word c.targets.ensures.targets c.targets.ensures.nodes (omega (arith, c.requires.starts)) c.in_ok-spread.ensures
 
 pub returns : goal.returns
 returns c = work_ends _ _ _ _ _ _ c.points.invariant (omega (arith, c.in_default.ensures.cases.0))
