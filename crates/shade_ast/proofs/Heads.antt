@@ -3,12 +3,7 @@ use Rattle.std.proofs.Common.{◌≡◌, refl, subst, ℕ, ◌+◌, ◌<◌, ◌
 use Rattle.shade_ast.specs.Lexemes.{Lexeme}
 use Rattle.shade_ast.specs.Reads.{Near, rank}
 use Rattle.shade_ast.proofs.Stages.{Stage, near_get, change, consume}
-
-pub record Headed {R : Type 0} (At : Lexeme → R → List Lexeme → List Lexeme → Type 0) (r : R) (ys w : List Lexeme) : Type 0 where
-  pub first : Lexeme
-  pub others : List Lexeme
-  pub split : ys ≡ first ∷ others
-  pub at : At first r others w
+use Rattle.shade_ast.specs.Chains.{Headed}
 
 module _ {R : Type 0} (G : R → List Lexeme → List Lexeme → Type 0) (n : ℕ) (tokens : List Lexeme) (from at : ℕ) (At : Lexeme → R → List Lexeme → List Lexeme → Type 0) (D : R → List Lexeme → List Lexeme → Type 0) where
   -- the token that stands here decides

@@ -7,16 +7,11 @@ use Rattle.shade_ast.specs.Lexemes.{Lexeme, Word, Mark}
 use Rattle.shade_ast.specs.Shapes.{NameShape, ExprShape, infixed, member, index, named, paren, place_of}
 use Rattle.shade_ast.specs.Expressions.{Access, Additive, And, BitAnd, BitOr, BitXor, Expression, LeftSide, LeftSingular, Multiplicative, Or, Primary, Relational, Singular, Unary, accessed, add, and_first, and_more, bit_and_first, bit_and_more, bit_or_first, bit_or_more, bit_xor_first, bit_xor_more, by_index, by_name, divide, left_accessed, left_name, left_parens, multiplicative, multiply, or_first, or_more, primary, remainder, subtract, unary}
 use Rattle.shade_ast.specs.Reads.{rank_of}
-use Rattle.shade_ast.proofs.Stages.{After}
-use Rattle.shade_ast.proofs.Tails.{Tail, on, Infix, Leftward}
+use Rattle.shade_ast.specs.Chains.{After, Tail, on, Infix}
+use Rattle.shade_ast.proofs.Tails.{Leftward}
+use Rattle.shade_ast.specs.Steps.{Factor, Term, OrStep, AndStep, BitAndStep, BitOrStep, BitXorStep, MemberStep, IndexStep, AccessStep, LeftFirst, first_name, first_parens}
 
 -- products
-abbrev pub Factor : Lexeme → ExprShape → ExprShape → List Lexeme → List Lexeme → Type 0
-Factor (Mark sign.Star p) l q us zs = Infix Unary (infixed (place_of l) l between.Multiply p) q us zs
-Factor (Mark sign.Slash p) l q us zs = Infix Unary (infixed (place_of l) l between.Divide p) q us zs
-Factor (Mark sign.Percent p) l q us zs = Infix Unary (infixed (place_of l) l between.Remainder p) q us zs
-Factor _ l q us zs = ⊥
-
 pub factor_ranks : (t : Lexeme) (l q : ExprShape) (us zs : List Lexeme) → Factor t l q us zs → 2 < rank_of t
 factor_ranks (Mark sign.Star p) l q us zs i = omega arith
 factor_ranks (Mark sign.Slash p) l q us zs i = omega arith
@@ -39,11 +34,6 @@ factors = record { base = λ e ts w g. unary g; grow = grow; spine = spine; rank
     spine l ts us (remainder {a = a} {b = b} p {us = vs} g h) r w t = spine a ts (Mark sign.Percent p ∷ vs) g r w (on (Mark sign.Percent p) (record { right = b; phrase = h; same = refl }) t)
 
 -- sums
-abbrev pub Term : Lexeme → ExprShape → ExprShape → List Lexeme → List Lexeme → Type 0
-Term (Mark sign.Plus p) l q us zs = Infix Multiplicative (infixed (place_of l) l between.Add p) q us zs
-Term (Mark sign.Minus p) l q us zs = Infix Multiplicative (infixed (place_of l) l between.Subtract p) q us zs
-Term _ l q us zs = ⊥
-
 pub term_ranks : (t : Lexeme) (l q : ExprShape) (us zs : List Lexeme) → Term t l q us zs → 3 < rank_of t
 term_ranks (Mark sign.Plus p) l q us zs i = omega arith
 term_ranks (Mark sign.Minus p) l q us zs i = omega arith
@@ -63,10 +53,6 @@ terms = record { base = λ e ts w g. multiplicative g; grow = grow; spine = spin
     spine l ts us (subtract {a = a} {b = b} p {us = vs} g h) r w t = spine a ts (Mark sign.Minus p ∷ vs) g r w (on (Mark sign.Minus p) (record { right = b; phrase = h; same = refl }) t)
 
 -- `||`
-abbrev pub OrStep : Lexeme → ExprShape → ExprShape → List Lexeme → List Lexeme → Type 0
-OrStep (Mark sign.OrOr p) l q us zs = Infix Relational (infixed (place_of l) l between.Or p) q us zs
-OrStep _ l q us zs = ⊥
-
 pub or_step_ranks : (t : Lexeme) (l q : ExprShape) (us zs : List Lexeme) → OrStep t l q us zs → 6 < rank_of t
 or_step_ranks (Mark sign.OrOr p) l q us zs i = omega arith
 or_step_ranks _ l q us zs i = absurd i
@@ -83,10 +69,6 @@ or_steps = record { base = λ e ts w g. or_first g; grow = grow; spine = spine; 
     spine l ts us (or_more {a = a} {b = b} p {us = vs} g h) r w t = spine a ts (Mark sign.OrOr p ∷ vs) g r w (on (Mark sign.OrOr p) (record { right = b; phrase = h; same = refl }) t)
 
 -- `&&`
-abbrev pub AndStep : Lexeme → ExprShape → ExprShape → List Lexeme → List Lexeme → Type 0
-AndStep (Mark sign.AndAnd p) l q us zs = Infix Relational (infixed (place_of l) l between.And p) q us zs
-AndStep _ l q us zs = ⊥
-
 pub and_step_ranks : (t : Lexeme) (l q : ExprShape) (us zs : List Lexeme) → AndStep t l q us zs → 6 < rank_of t
 and_step_ranks (Mark sign.AndAnd p) l q us zs i = omega arith
 and_step_ranks _ l q us zs i = absurd i
@@ -103,10 +85,6 @@ and_steps = record { base = λ e ts w g. and_first g; grow = grow; spine = spine
     spine l ts us (and_more {a = a} {b = b} p {us = vs} g h) r w t = spine a ts (Mark sign.AndAnd p ∷ vs) g r w (on (Mark sign.AndAnd p) (record { right = b; phrase = h; same = refl }) t)
 
 -- `&`
-abbrev pub BitAndStep : Lexeme → ExprShape → ExprShape → List Lexeme → List Lexeme → Type 0
-BitAndStep (Mark sign.Ampersand p) l q us zs = Infix Unary (infixed (place_of l) l between.BitAnd p) q us zs
-BitAndStep _ l q us zs = ⊥
-
 pub bit_and_step_ranks : (t : Lexeme) (l q : ExprShape) (us zs : List Lexeme) → BitAndStep t l q us zs → 2 < rank_of t
 bit_and_step_ranks (Mark sign.Ampersand p) l q us zs i = omega arith
 bit_and_step_ranks _ l q us zs i = absurd i
@@ -123,10 +101,6 @@ bit_and_steps = record { base = λ e ts w g. bit_and_first g; grow = grow; spine
     spine l ts us (bit_and_more {a = a} {b = b} p {us = vs} g h) r w t = spine a ts (Mark sign.Ampersand p ∷ vs) g r w (on (Mark sign.Ampersand p) (record { right = b; phrase = h; same = refl }) t)
 
 -- `|`
-abbrev pub BitOrStep : Lexeme → ExprShape → ExprShape → List Lexeme → List Lexeme → Type 0
-BitOrStep (Mark sign.Bar p) l q us zs = Infix Unary (infixed (place_of l) l between.BitOr p) q us zs
-BitOrStep _ l q us zs = ⊥
-
 pub bit_or_step_ranks : (t : Lexeme) (l q : ExprShape) (us zs : List Lexeme) → BitOrStep t l q us zs → 2 < rank_of t
 bit_or_step_ranks (Mark sign.Bar p) l q us zs i = omega arith
 bit_or_step_ranks _ l q us zs i = absurd i
@@ -143,10 +117,6 @@ bit_or_steps = record { base = λ e ts w g. bit_or_first g; grow = grow; spine =
     spine l ts us (bit_or_more {a = a} {b = b} p {us = vs} g h) r w t = spine a ts (Mark sign.Bar p ∷ vs) g r w (on (Mark sign.Bar p) (record { right = b; phrase = h; same = refl }) t)
 
 -- `^`
-abbrev pub BitXorStep : Lexeme → ExprShape → ExprShape → List Lexeme → List Lexeme → Type 0
-BitXorStep (Mark sign.Caret p) l q us zs = Infix Unary (infixed (place_of l) l between.BitXor p) q us zs
-BitXorStep _ l q us zs = ⊥
-
 pub bit_xor_step_ranks : (t : Lexeme) (l q : ExprShape) (us zs : List Lexeme) → BitXorStep t l q us zs → 2 < rank_of t
 bit_xor_step_ranks (Mark sign.Caret p) l q us zs i = omega arith
 bit_xor_step_ranks _ l q us zs i = absurd i
@@ -163,22 +133,6 @@ bit_xor_steps = record { base = λ e ts w g. bit_xor_first g; grow = grow; spine
     spine l ts us (bit_xor_more {a = a} {b = b} p {us = vs} g h) r w t = spine a ts (Mark sign.Caret p ∷ vs) g r w (on (Mark sign.Caret p) (record { right = b; phrase = h; same = refl }) t)
 
 -- accesses
-pub record MemberStep (l : ExprShape) (p : Place) (q : ExprShape) (us zs : List Lexeme) : Type 0 where
-  pub name : NameShape
-  pub split : us ≡ Word name.text name.place ∷ zs
-  pub same : q ≡ member (place_of l) l p name
-
-pub record IndexStep (l : ExprShape) (p : Place) (q : ExprShape) (us zs : List Lexeme) : Type 0 where
-  pub inner : ExprShape
-  pub close : Place
-  pub phrase : Expression inner us (Mark sign.CloseBracket close ∷ zs)
-  pub same : q ≡ index (place_of l) l p inner
-
-abbrev pub AccessStep : Lexeme → ExprShape → ExprShape → List Lexeme → List Lexeme → Type 0
-AccessStep (Mark sign.Dot p) l q us zs = MemberStep l p q us zs
-AccessStep (Mark sign.OpenBracket p) l q us zs = IndexStep l p q us zs
-AccessStep _ l q us zs = ⊥
-
 pub access_ranks : (t : Lexeme) (l q : ExprShape) (us zs : List Lexeme) → AccessStep t l q us zs → 1 < rank_of t
 access_ranks (Mark sign.Dot p) l q us zs i = omega arith
 access_ranks (Mark sign.OpenBracket p) l q us zs i = omega arith
@@ -200,11 +154,6 @@ accesses = record { base = λ e ts w g. primary g; grow = λ t l q ts us zs g i.
     spine : (l : ExprShape) (ts us : List Lexeme) → Singular l ts us → (r : ExprShape) (w : List Lexeme) → Tail AccessStep l r us w → After Primary (λ b. Tail AccessStep b) r ts w
     spine l ts us (primary g) r w t = record { part = l; others = us; phrase = g; rest = t }
     spine l ts us (accessed {e = e} {us = vs} g a) r w t = spine e ts vs g r w (access_tail e l r vs us w a t)
-
--- a name or a left side in parentheses
-pub data LeftFirst : ExprShape → List Lexeme → List Lexeme → Type 0 where
-  first_name : (p : Place) (text : List ℕ) {ts : List Lexeme} → LeftFirst (named p text) (Word text p ∷ ts) ts
-  first_parens : {e : ExprShape} (p q : Place) {ts us : List Lexeme} → LeftSide e ts (Mark sign.Close q ∷ us) → LeftFirst (paren p e) (Mark sign.Open p ∷ ts) us
 
 pub left_accesses : Leftward LeftSingular LeftFirst AccessStep 2 1
 left_accesses = record { base = base; grow = λ t l q ts us zs g i. left_accessed g (step_access t l q us zs i); spine = spine; ranks = access_ranks; low = omega arith }

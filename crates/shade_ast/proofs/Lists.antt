@@ -5,13 +5,9 @@ use Rattle.shade_ast.specs.declared.lexeme.Sign.TheVariants as sign
 use Rattle.shade_ast.specs.Lexemes.{Lexeme, Mark}
 use Rattle.shade_ast.specs.Repeats.{Listed, last, last_comma, comma, MaybeListed, nothing, something}
 use Rattle.shade_ast.specs.Reads.{Near, Reads, Fails, rank, rank_of}
-use Rattle.shade_ast.proofs.Stages.{Stage, After, Ends, Closes, near_get, begin, consume, change, finish_ends, phrase, phrase_fails, stuck}
+use Rattle.shade_ast.proofs.Stages.{Stage, Closes, near_get, begin, consume, change, finish_ends, phrase, phrase_fails, stuck}
+use Rattle.shade_ast.specs.Chains.{After, Ends, Closed}
 use Rattle.shade_ast.proofs.Placed.{some_place}
-
--- a list with the token that closes it
-pub record Closed {R : Type 0} (L : List R × Bool → List Lexeme → List Lexeme → Type 0) (closer : Place → Lexeme) (r : List R × Bool) (ts w : List Lexeme) : Type 0 where
-  pub place : Place
-  pub list : L r ts (closer place ∷ w)
 
 module _ {R : Type 0} (G : R → List Lexeme → List Lexeme → Type 0) (closer : Place → Lexeme) where
   -- what follows an item, where these stand so far

@@ -4,7 +4,8 @@ use Rattle.std.proofs.lemmas.List.{append-nil}
 use Rattle.shade_ast.specs.Lexemes.{Lexeme}
 use Rattle.shade_ast.specs.Repeats.{Many, no_more, more}
 use Rattle.shade_ast.specs.Reads.{Near, Reads, Fails, rank, rank_of}
-use Rattle.shade_ast.proofs.Stages.{Stage, After, Ends, Closes, one_token, begin, change, finish, phrase_or, phrase_or_fails}
+use Rattle.shade_ast.proofs.Stages.{Stage, Closes, one_token, begin, change, finish, phrase_or, phrase_or_fails}
+use Rattle.shade_ast.specs.Chains.{After, Ends}
 
 -- the tokens of what was read begin with the token at its place
 pub first_read : (tokens us : List Lexeme) (at to : ℕ) (t : Lexeme) → at < to → to ≤ length tokens → drop at tokens ≡ us ++ drop to tokens → slice_get tokens at ≡ Some t → (vs : List Lexeme) × (us ≡ t ∷ vs)

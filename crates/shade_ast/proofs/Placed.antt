@@ -6,6 +6,7 @@ use Rattle.shade_ast.specs.Shapes.{NameShape}
 use Rattle.shade_ast.specs.Statements.{Name, name}
 use Rattle.shade_ast.specs.Reads.{Near, Reads, Fails, rank, rank_of}
 use Rattle.shade_ast.proofs.Stages.{Closes, near_get, single, single_fails}
+use Rattle.shade_ast.specs.Chains.{Placed}
 
 pub some_place : Place
 some_place = record { offset = 0; line = 1; column = 1 }
@@ -20,10 +21,6 @@ lexeme_place (Key keyword place) = place
 lexeme_place (Number value suffix place) = place
 lexeme_place (Mark found place) = place
 lexeme_place (Stray place) = place
-
--- the token of this kind that stands at a place
-pub record Placed (kind : Place → Lexeme) (p : Place) (ts rest : List Lexeme) : Type 0 where
-  pub is : ts ≡ kind p ∷ rest
 
 module _ (kind : Place → Lexeme) where
   pub placed_closes : Closes (Placed kind)

@@ -39,16 +39,13 @@ use Rattle.shade_ast.specs.declared.tree.FnResult.{FnResult}
 use Rattle.shade_ast.specs.declared.tree.Member.{Member}
 use Rattle.shade_ast.specs.declared.tree.Rule.{Rule}
 use Rattle.shade_ast.specs.declared.tree.Rule.TheVariants as rule
-use Rattle.shade_ast.specs.Shapes.{infixed, prefixed, member, index, call, template, named, paren, attr_name, assign, compound, phony, increment, decrement, call_alone, var_simple, const_simple, let_simple, update_simple, value_selector}
-use Rattle.shade_ast.specs.Shapes.{StmtShape, block_stmt, simple_stmt, return_stmt, assert_stmt, if_stmt, switch_stmt, loop_stmt, for_stmt, while_stmt, BlockShape, braces, ArmShapes, else_arm, else_if_arm, ClauseShapes, case_clause, default_clause, ContinuingShape, continuing_part}
-use Rattle.shade_ast.specs.Shapes.{alias_decl, const_decl, assert_decl, struct_decl, var_decl, override_decl, fn_decl, plain_rule, scoped_rule, diagnostic_directive, requires_directive, enable_directive}
+use Rattle.shade_ast.specs.Shapes.{infixed, prefixed, member, index, call, template, named, paren, attr_name, assign, compound, phony, increment, decrement, call_alone, var_simple, const_simple, let_simple, update_simple, value_selector, StmtShape, block_stmt, simple_stmt, return_stmt, assert_stmt, if_stmt, switch_stmt, loop_stmt, for_stmt, while_stmt, BlockShape, braces, ArmShapes, else_arm, else_if_arm, ClauseShapes, case_clause, default_clause, ContinuingShape, continuing_part, alias_decl, const_decl, assert_decl, struct_decl, var_decl, override_decl, fn_decl, plain_rule, scoped_rule, diagnostic_directive, requires_directive, enable_directive}
 use Rattle.shade_ast.specs.Names.{Grows}
-use Rattle.shade_ast.specs.Shaped.{name_shape, expr_shapes, kind_step, expr_step, expr_shape, attr_name_shape, arguments_shape, attr_shape, attr_shapes, var_space_shape, var_shape, binding_shape, update_shape, simple_shape, selector_shape, break_if_shape}
-use Rattle.shade_ast.specs.Shaped.{stmt_shapes, clause_shapes, arm_shapes, maybe_continuing, clause_step, stmt_kind_step, arm_step, block_step, continuing_step, otherwise_step, stmt_step, stmt_shape, block_shape, member_shape, result_shape, decl_kind_shape, decl_shape, rule_shape, directive_kind_shape, directive_shape}
-use Rattle.shade_ast.specs.Needs.{most_of, maybe_of, named_needs, kind_needs, expr_layer_needs, expr_needs, attr_name_needs, arguments_need, attr_needs, attrs_need, var_space_needs, var_needs, binding_needs, update_needs, simple_needs, selector_needs, break_if_needs}
-use Rattle.shade_ast.specs.Needs.{clause_needs, stmt_kind_needs, arm_needs, block_layer_needs, continuing_needs, otherwise_needs, stmt_layer_needs, stmt_needs, block_needs, member_needs, result_needs, decl_kind_needs, decl_needs, rule_needs, directive_kind_needs, directive_needs}
+use Rattle.shade_ast.specs.Shaped.{name_shape, expr_shapes, kind_step, expr_step, expr_shape, attr_name_shape, arguments_shape, attr_shape, attr_shapes, var_space_shape, var_shape, binding_shape, update_shape, simple_shape, selector_shape, break_if_shape, stmt_shapes, clause_shapes, arm_shapes, maybe_continuing, clause_step, stmt_kind_step, arm_step, block_step, continuing_step, otherwise_step, stmt_step, stmt_shape, block_shape, member_shape, result_shape, decl_kind_shape, decl_shape, rule_shape, directive_kind_shape, directive_shape}
+use Rattle.shade_ast.specs.Needs.{most_of, maybe_of, named_needs, kind_needs, expr_layer_needs, expr_needs, attr_name_needs, arguments_need, attr_needs, attrs_need, var_space_needs, var_needs, binding_needs, update_needs, simple_needs, selector_needs, break_if_needs, clause_needs, stmt_kind_needs, arm_needs, block_layer_needs, continuing_needs, otherwise_needs, stmt_layer_needs, stmt_needs, block_needs, member_needs, result_needs, decl_kind_needs, decl_needs, rule_needs, directive_kind_needs, directive_needs}
 use Rattle.shade_ast.proofs.ExprLayers.{kind_shape, kind_count}
-use Rattle.shade_ast.proofs.StmtLayers.{clause_shaped, clause_count, stmt_kind_shaped, stmt_kind_count, arm_shaped, arm_count, block_shaped, block_count, continuing_shaped, continuing_count, otherwise_shaped, otherwise_count, stmt_shaped, stmt_count}
+use Rattle.shade_ast.specs.StmtParts.{clause_shaped, clause_count, arm_shaped, arm_count, continuing_shaped, continuing_count, otherwise_shaped, otherwise_count}
+use Rattle.shade_ast.proofs.StmtLayers.{stmt_kind_shaped, stmt_kind_count, block_shaped, block_count, stmt_shaped, stmt_count}
 
 module _ (names more : List (List ℕ)) where
   -- more names change nothing

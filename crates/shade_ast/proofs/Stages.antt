@@ -4,6 +4,7 @@ use Rattle.std.proofs.lemmas.List.{drop_more}
 use Rattle.std.proofs.lemmas.Option.{slice_get_within, get_or_from_slice_get}
 use Rattle.shade_ast.specs.Lexemes.{Lexeme}
 use Rattle.shade_ast.specs.Reads.{Near, Reads, Fails, rank, rank_of}
+use Rattle.shade_ast.specs.Chains.{After, Then, Ends}
 
 -- one token, and the rest
 pub one_token : (ts : List Lexeme) (i : ℕ) (t : Lexeme) → slice_get ts i ≡ Some t → drop i ts ≡ t ∷ drop (i + 1) ts
@@ -19,24 +20,6 @@ near_get [] zero t zs n = absurd n
 near_get (u ∷ ts) zero t zs n = ap Some (sym n)
 near_get [] (suc i) t zs n = absurd n
 near_get (u ∷ ts) (suc i) t zs n = near_get ts i t zs n
-
--- a phrase, and then what depends on it
-pub record After {R S : Type 0} (B : S → List Lexeme → List Lexeme → Type 0) (C : S → R → List Lexeme → List Lexeme → Type 0) (r : R) (ys w : List Lexeme) : Type 0 where
-  pub part : S
-  pub others : List Lexeme
-  pub phrase : B part ys others
-  pub rest : C part r others w
-
--- a token, and then the rest
-pub record Then {R : Type 0} (t : Lexeme) (C : R → List Lexeme → List Lexeme → Type 0) (r : R) (ys w : List Lexeme) : Type 0 where
-  pub others : List Lexeme
-  pub split : ys ≡ t ∷ others
-  pub rest : C r others w
-
--- nothing more
-pub record Ends {R : Type 0} (e r : R) (ys w : List Lexeme) : Type 0 where
-  pub same : r ≡ e
-  pub left : ys ≡ w
 
 -- some tokens end it
 pub record Closes {R : Type 0} (C : R → List Lexeme → List Lexeme → Type 0) : Type 0 where

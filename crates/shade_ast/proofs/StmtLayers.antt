@@ -19,12 +19,7 @@ use Rattle.shade_ast.specs.declared.stmt.Stmt.{Stmt, fold-Stmt, fold_out-Stmt}
 use Rattle.shade_ast.specs.Shapes.{StmtShape, empty_stmt, block_stmt, simple_stmt, return_stmt, break_stmt, continue_stmt, discard_stmt, assert_stmt, if_stmt, switch_stmt, loop_stmt, for_stmt, while_stmt, BlockShape, braces, ArmShapes, else_arm, else_if_arm, ClauseShapes, case_clause, default_clause, ContinuingShape, continuing_part}
 use Rattle.shade_ast.specs.Shaped.{expr_shape, attr_shapes, simple_shape, selector_shape, update_shape, break_if_shape, stmt_shapes, clause_shapes, arm_shapes, maybe_continuing, clause_step, stmt_kind_step, arm_step, block_step, continuing_step, otherwise_step, stmt_step}
 use Rattle.shade_ast.specs.Needs.{most_of, maybe_of, expr_needs, attrs_need, simple_needs, selector_needs, update_needs, break_if_needs, clause_needs, stmt_kind_needs, arm_needs, block_layer_needs, continuing_needs, otherwise_needs, stmt_layer_needs}
-
-abbrev pub clause_shaped : List (List ℕ) → Clause → ClauseShapes → ClauseShapes
-clause_shaped names = fold-Clause (ClauseShapes → ClauseShapes) (Place → StmtShape) (ArmShapes → ArmShapes) BlockShape ContinuingShape ArmShapes StmtShape (clause_step names) (stmt_kind_step names) (arm_step names) (block_step names) (continuing_step names) otherwise_step stmt_step
-
-abbrev pub clause_count : Clause → ℕ
-clause_count = fold-Clause ℕ ℕ ℕ ℕ ℕ ℕ ℕ clause_needs stmt_kind_needs arm_needs block_layer_needs continuing_needs otherwise_needs stmt_layer_needs
+use Rattle.shade_ast.specs.StmtParts.{clause_shaped, clause_count, arm_shaped, arm_count, continuing_shaped, continuing_count, otherwise_shaped, otherwise_count}
 
 abbrev pub stmt_kind_shaped : List (List ℕ) → StmtKind → Place → StmtShape
 stmt_kind_shaped names = fold-StmtKind (ClauseShapes → ClauseShapes) (Place → StmtShape) (ArmShapes → ArmShapes) BlockShape ContinuingShape ArmShapes StmtShape (clause_step names) (stmt_kind_step names) (arm_step names) (block_step names) (continuing_step names) otherwise_step stmt_step
@@ -32,29 +27,11 @@ stmt_kind_shaped names = fold-StmtKind (ClauseShapes → ClauseShapes) (Place �
 abbrev pub stmt_kind_count : StmtKind → ℕ
 stmt_kind_count = fold-StmtKind ℕ ℕ ℕ ℕ ℕ ℕ ℕ clause_needs stmt_kind_needs arm_needs block_layer_needs continuing_needs otherwise_needs stmt_layer_needs
 
-abbrev pub arm_shaped : List (List ℕ) → Arm → ArmShapes → ArmShapes
-arm_shaped names = fold-Arm (ClauseShapes → ClauseShapes) (Place → StmtShape) (ArmShapes → ArmShapes) BlockShape ContinuingShape ArmShapes StmtShape (clause_step names) (stmt_kind_step names) (arm_step names) (block_step names) (continuing_step names) otherwise_step stmt_step
-
-abbrev pub arm_count : Arm → ℕ
-arm_count = fold-Arm ℕ ℕ ℕ ℕ ℕ ℕ ℕ clause_needs stmt_kind_needs arm_needs block_layer_needs continuing_needs otherwise_needs stmt_layer_needs
-
 abbrev pub block_shaped : List (List ℕ) → Block → BlockShape
 block_shaped names = fold-Block (ClauseShapes → ClauseShapes) (Place → StmtShape) (ArmShapes → ArmShapes) BlockShape ContinuingShape ArmShapes StmtShape (clause_step names) (stmt_kind_step names) (arm_step names) (block_step names) (continuing_step names) otherwise_step stmt_step
 
 abbrev pub block_count : Block → ℕ
 block_count = fold-Block ℕ ℕ ℕ ℕ ℕ ℕ ℕ clause_needs stmt_kind_needs arm_needs block_layer_needs continuing_needs otherwise_needs stmt_layer_needs
-
-abbrev pub continuing_shaped : List (List ℕ) → Continuing → ContinuingShape
-continuing_shaped names = fold-Continuing (ClauseShapes → ClauseShapes) (Place → StmtShape) (ArmShapes → ArmShapes) BlockShape ContinuingShape ArmShapes StmtShape (clause_step names) (stmt_kind_step names) (arm_step names) (block_step names) (continuing_step names) otherwise_step stmt_step
-
-abbrev pub continuing_count : Continuing → ℕ
-continuing_count = fold-Continuing ℕ ℕ ℕ ℕ ℕ ℕ ℕ clause_needs stmt_kind_needs arm_needs block_layer_needs continuing_needs otherwise_needs stmt_layer_needs
-
-abbrev pub otherwise_shaped : List (List ℕ) → Otherwise → ArmShapes
-otherwise_shaped names = fold-Otherwise (ClauseShapes → ClauseShapes) (Place → StmtShape) (ArmShapes → ArmShapes) BlockShape ContinuingShape ArmShapes StmtShape (clause_step names) (stmt_kind_step names) (arm_step names) (block_step names) (continuing_step names) otherwise_step stmt_step
-
-abbrev pub otherwise_count : Otherwise → ℕ
-otherwise_count = fold-Otherwise ℕ ℕ ℕ ℕ ℕ ℕ ℕ clause_needs stmt_kind_needs arm_needs block_layer_needs continuing_needs otherwise_needs stmt_layer_needs
 
 abbrev pub stmt_shaped : List (List ℕ) → Stmt → StmtShape
 stmt_shaped names = fold-Stmt (ClauseShapes → ClauseShapes) (Place → StmtShape) (ArmShapes → ArmShapes) BlockShape ContinuingShape ArmShapes StmtShape (clause_step names) (stmt_kind_step names) (arm_step names) (block_step names) (continuing_step names) otherwise_step stmt_step

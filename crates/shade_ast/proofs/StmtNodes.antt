@@ -16,24 +16,13 @@ use Rattle.shade_ast.specs.declared.stmt.Continuing.{Continuing, out-Continuing,
 use Rattle.shade_ast.specs.declared.stmt.Otherwise.{Otherwise, out-Otherwise, fold-Otherwise, fold_out-Otherwise}
 use Rattle.shade_ast.specs.declared.stmt.Stmt.{Stmt, fold-Stmt, fold_out-Stmt}
 use Rattle.shade_ast.specs.Nodes.{joined_of, maybe_of, expr_nodes, attrs_nodes, simple_nodes, selector_nodes, update_nodes, break_if_nodes, clause_nodes, stmt_kind_nodes, arm_nodes, block_layer_nodes, continuing_nodes, otherwise_nodes, stmt_layer_nodes}
-
-abbrev pub clause_numbers : Clause → List ℕ
-clause_numbers = fold-Clause (List ℕ) (List ℕ) (List ℕ) (List ℕ) (List ℕ) (List ℕ) (List ℕ) clause_nodes stmt_kind_nodes arm_nodes block_layer_nodes continuing_nodes otherwise_nodes stmt_layer_nodes
+use Rattle.shade_ast.specs.StmtParts.{clause_numbers, arm_numbers, continuing_numbers, otherwise_numbers}
 
 abbrev pub stmt_kind_numbers : StmtKind → List ℕ
 stmt_kind_numbers = fold-StmtKind (List ℕ) (List ℕ) (List ℕ) (List ℕ) (List ℕ) (List ℕ) (List ℕ) clause_nodes stmt_kind_nodes arm_nodes block_layer_nodes continuing_nodes otherwise_nodes stmt_layer_nodes
 
-abbrev pub arm_numbers : Arm → List ℕ
-arm_numbers = fold-Arm (List ℕ) (List ℕ) (List ℕ) (List ℕ) (List ℕ) (List ℕ) (List ℕ) clause_nodes stmt_kind_nodes arm_nodes block_layer_nodes continuing_nodes otherwise_nodes stmt_layer_nodes
-
 abbrev pub block_numbers : Block → List ℕ
 block_numbers = fold-Block (List ℕ) (List ℕ) (List ℕ) (List ℕ) (List ℕ) (List ℕ) (List ℕ) clause_nodes stmt_kind_nodes arm_nodes block_layer_nodes continuing_nodes otherwise_nodes stmt_layer_nodes
-
-abbrev pub continuing_numbers : Continuing → List ℕ
-continuing_numbers = fold-Continuing (List ℕ) (List ℕ) (List ℕ) (List ℕ) (List ℕ) (List ℕ) (List ℕ) clause_nodes stmt_kind_nodes arm_nodes block_layer_nodes continuing_nodes otherwise_nodes stmt_layer_nodes
-
-abbrev pub otherwise_numbers : Otherwise → List ℕ
-otherwise_numbers = fold-Otherwise (List ℕ) (List ℕ) (List ℕ) (List ℕ) (List ℕ) (List ℕ) (List ℕ) clause_nodes stmt_kind_nodes arm_nodes block_layer_nodes continuing_nodes otherwise_nodes stmt_layer_nodes
 
 abbrev pub stmt_numbers : Stmt → List ℕ
 stmt_numbers = fold-Stmt (List ℕ) (List ℕ) (List ℕ) (List ℕ) (List ℕ) (List ℕ) (List ℕ) clause_nodes stmt_kind_nodes arm_nodes block_layer_nodes continuing_nodes otherwise_nodes stmt_layer_nodes

@@ -2,12 +2,8 @@
 use Rattle.std.proofs.Common.{◌≡◌, refl, sym, subst, ℕ, ◌+◌, ◌<◌, ◌≤◌, ◌⊎◌, inl, inr, List, [], ◌∷◌, length, drop, arith, Some, slice_get}
 use Rattle.shade_ast.specs.Lexemes.{Lexeme}
 use Rattle.shade_ast.specs.Reads.{Near, Reads, Fails, rank, rank_of}
-use Rattle.shade_ast.proofs.Stages.{Stage, After, Closes, near_get, begin, consume, change, finish, phrase, phrase_fails}
-
--- `At` has one step, behind its first token: from the tree before to the tree after. A tail is any number of them.
-pub data Tail {R : Type 0} (At : Lexeme → R → R → List Lexeme → List Lexeme → Type 0) : R → R → List Lexeme → List Lexeme → Type 0 where
-  done : {l : R} {w : List Lexeme} → Tail At l l w w
-  on : {l m r : R} (t : Lexeme) {us zs w : List Lexeme} → At t l m us zs → Tail At m r zs w → Tail At l r (t ∷ us) w
+use Rattle.shade_ast.proofs.Stages.{Stage, Closes, near_get, begin, consume, change, finish, phrase, phrase_fails}
+use Rattle.shade_ast.specs.Chains.{After, Tail, done, on, Infix}
 
 -- a step behind its first token, and the rest
 pub record On {R : Type 0} (At : Lexeme → R → R → List Lexeme → List Lexeme → Type 0) (t : Lexeme) (l r : R) (us w : List Lexeme) : Type 0 where
@@ -15,12 +11,6 @@ pub record On {R : Type 0} (At : Lexeme → R → R → List Lexeme → List Lex
   pub others : List Lexeme
   pub at : At t l tree us others
   pub rest : Tail At tree r others w
-
--- a step that is an operator followed by a phrase
-pub record Infix {R S : Type 0} (B : S → List Lexeme → List Lexeme → Type 0) (build : S → R) (m : R) (us zs : List Lexeme) : Type 0 where
-  pub right : S
-  pub phrase : B right us zs
-  pub same : m ≡ build right
 
 module _ {R : Type 0} (At : Lexeme → R → R → List Lexeme → List Lexeme → Type 0) where
   pub unroll : (l r : R) (ys w : List Lexeme) → Tail At l r ys w → ((r ≡ l) × (ys ≡ w)) ⊎ ((t : Lexeme) × (us : List Lexeme) × (ys ≡ t ∷ us) × On At t l r us w)

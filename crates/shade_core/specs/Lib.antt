@@ -1,2 +1,13 @@
 pub mod Code
 pub mod Behaviour
+pub mod Atomics
+pub mod Standing
+pub mod Types
+pub mod Roots
+pub mod Views
+pub mod Fits
+pub mod Scopes
+pub mod Chains
+pub mod Limits
+pub mod HasShape
+pub mod Numbers

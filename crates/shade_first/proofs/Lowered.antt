@@ -1,14 +1,13 @@
 -- Statements of items.
-use Rattle.std.proofs.Common.{◌≡◌, refl, sym, ap, ◌∙◌, subst, ℕ, ◌+◌, ◌<◌, ◌≤◌, List, [], ◌∷◌, ◌++◌, length, drop, get_or, arith, append_assoc}
-use Rattle.std.proofs.Math.ListN.{drop_of_length-le}
-use Rattle.std.proofs.lemmas.List.{drop_more}
+use Rattle.std.proofs.Common.{◌≡◌, refl, sym, ap, ◌∙◌, subst, ℕ, ◌+◌, ◌<◌, ◌≤◌, List, [], ◌∷◌, ◌++◌, length, drop, take, get_or, arith, append_assoc}
+use Rattle.std.proofs.lemmas.List.{drop_more, take_more}
 use Rattle.shade_base.specs.declared.place.Place.{Place}
 use Rattle.shade_core.specs.declared.statement.CoreStatement.{CoreStatement}
 use Rattle.shade_first.specs.declared.tree.FirstItem.{FirstItem, fold-roll-FirstItem}
 use Rattle.shade_first.specs.declared.tree.FirstItem.TheVariants as item
 use Rattle.shade_first.specs.declared.tree.FirstItem.TheOpen as layer
 use Rattle.shade_first.specs.declared.tree.FirstItem.TheVariants.{rolls-Barrier, rolls-If}
-use Rattle.shade_first.specs.Lowering.{condition, branch, barrier, Lowers, none, one_barrier, one_branch, count_step, count_of, count_all}
+use Rattle.shade_first.specs.Lowering.{condition, branch, barrier, Adds, Lowers, none, one_barrier, one_branch, count_step, count_of, count_all}
 
 pub count_barrier : (p : Place) → count_of (item.Barrier p) ≡ 1
 count_barrier p = ap count_of (sym (rolls-Barrier p)) ∙ fold-roll-FirstItem ℕ count_step (layer.Barrier p)
@@ -28,39 +27,36 @@ lowers_count is n ss m (one_branch k p q limit {inner = inner} {is = js} {end = 
     let rest : m ≡ end + count_all js = lowers_count js end _ m r in
     omega (arith, count_branch p q limit inner, first, rest)
 
--- the statements so far, with all that may follow
-pub record LowersSoFar (items : List FirstItem) (number i next : ℕ) (made : List CoreStatement) : Type 0 where
-  pub whole : (ss : List CoreStatement) (m : ℕ) → Lowers (drop i items) next ss m → Lowers items number (made ++ ss) m
+-- statements one behind the other
+pub lowers_append : (is js : List FirstItem) (n : ℕ) (ss ts : List CoreStatement) (m k : ℕ) → Lowers is n ss m → Lowers js m ts k → Lowers (is ++ js) n (ss ++ ts) k
+lowers_append is js n ss ts m k (none i) l = l
+lowers_append is js n ss ts m k (one_barrier i p {is = rest} {ss = more} r) l = one_barrier i p (lowers_append rest js (i + 1) more ts m k r l)
+lowers_append is js n ss ts m k (one_branch i p q limit {is = rest} {ss = more} {end = end} r t) l =
+    one_branch i p q limit r (lowers_append rest js end more ts m k t l)
 
-pub lower_begin : (items : List FirstItem) (number : ℕ) (made : List CoreStatement) → made ≡ [] → LowersSoFar items number 0 number made
-lower_begin items number made empty = record { whole = λ ss m l. subst (λ x. Lowers items number (x ++ ss) m) (sym empty) l }
+-- what is added for an item
+pub added_barrier : (i : FirstItem) (n : ℕ) (p : Place) (old new : List CoreStatement) → i ≡ item.Barrier p → new ≡ old ++ barrier n p ∷ [] → Adds i n old new (n + 1)
+added_barrier i n p old new is pushed = record {
+  statements = barrier n p ∷ [];
+  lowered = subst (λ x. Lowers (x ∷ []) n (barrier n p ∷ []) (n + 1)) (sym is) (one_barrier n p (none (n + 1)));
+  more = pushed;
+}
 
-module _ (items : List FirstItem) (number i next : ℕ) (made : List CoreStatement) (d : FirstItem) (h : i < length items) (s : LowersSoFar items number i next made) where
-  pub lower_barrier : (p : Place) (more : List CoreStatement) → get_or items i d ≡ item.Barrier p → more ≡ made ++ barrier next p ∷ [] → LowersSoFar items number (i + 1) (next + 1) more
-  lower_barrier p more is pushed = record {
-    whole =
-        λ ss m l.
-        subst (λ x. Lowers items number x m) (sym (append_assoc made (barrier next p ∷ []) ss) ∙ ap (λ x. x ++ ss) (sym pushed))
-        (s.whole (barrier next p ∷ ss) m
-        (subst (λ x. Lowers x next (barrier next p ∷ ss) m) (sym (drop_more items i d h ∙ ap (λ x. x ∷ drop (i + 1) items) is)) (one_barrier next p l)));
-  }
+pub added_branch : (i : FirstItem) (n : ℕ) (p q : Place) (limit : ℕ) (inner : List FirstItem) (body old more new : List CoreStatement) (end : ℕ) → i ≡ item.If p q limit inner
+    → Lowers inner (n + 2) body end → more ≡ old ++ condition n q limit ∷ [] → new ≡ more ++ branch (n + 1) p n body ∷ [] → Adds i n old new end
+added_branch i n p q limit inner body old more new end is low pushed pushed_too = record {
+  statements = condition n q limit ∷ (branch (n + 1) p n body ∷ []);
+  lowered = subst (λ x. Lowers (x ∷ []) n (condition n q limit ∷ (branch (n + 1) p n body ∷ [])) end) (sym is) (one_branch n p q limit low (none end));
+  more = pushed_too ∙ ap (λ x. x ++ branch (n + 1) p n body ∷ []) pushed ∙ append_assoc old (condition n q limit ∷ []) (branch (n + 1) p n body ∷ []);
+}
 
-  pub lower_branch : (p q : Place) (limit : ℕ) (inner : List FirstItem) (body more last : List CoreStatement) (end : ℕ) → get_or items i d ≡ item.If p q limit inner → Lowers inner (next + 2) body end → more ≡ made ++ condition next q limit ∷ [] → last ≡ more ++ branch (next + 1) p next body ∷ [] → LowersSoFar items number (i + 1) end last
-  lower_branch p q limit inner body more last end is low pushed pushed_too = record {
-    whole =
-        λ ss m l.
-        let c : CoreStatement = condition next q limit in
-        let b : CoreStatement = branch (next + 1) p next body in
-        let joined : made ++ c ∷ (b ∷ ss) ≡ last ++ ss =
-        sym (append_assoc made (c ∷ []) (b ∷ ss)) ∙ ap (λ x. x ++ b ∷ ss) (sym pushed) ∙ sym (append_assoc more (b ∷ []) ss) ∙ ap (λ x. x ++ ss) (sym pushed_too) in
-        subst (λ x. Lowers items number x m) joined
-        (s.whole (c ∷ (b ∷ ss)) m
-        (subst (λ x. Lowers x next (c ∷ (b ∷ ss)) m) (sym (drop_more items i d h ∙ ap (λ x. x ∷ drop (i + 1) items) is)) (one_branch next p q limit low l)));
-  }
+-- one item more
+pub lowers_more : (items : List FirstItem) (n i next end : ℕ) (made more : List CoreStatement) (d : FirstItem) → i < length items → Lowers (take i items) n made next
+    → Adds (get_or items i d) next made more end → Lowers (take (i + 1) items) n more end
+lowers_more items n i next end made more d h l adds =
+    subst (λ x. Lowers x n more end) (sym (take_more items i d h))
+    (subst (λ x. Lowers (take i items ++ get_or items i d ∷ []) n x end) (sym adds.more)
+    (lowers_append (take i items) (get_or items i d ∷ []) n made adds.statements next end l adds.lowered))
 
-pub lower_end : (items : List FirstItem) (number i next : ℕ) (made : List CoreStatement) → length items ≤ i → LowersSoFar items number i next made → Lowers items number made next
-lower_end items number i next made all s = subst (λ x. Lowers items number x next) (append-nil' made) (s.whole [] next (subst (λ x. Lowers x next [] next) (sym (drop_of_length-le items all)) (none next)))
-  where
-    append-nil' : (us : List CoreStatement) → us ++ [] ≡ us
-    append-nil' [] = refl
-    append-nil' (u ∷ us) = ap (λ vs. u ∷ vs) (append-nil' us)
+pub adds_count : (i : FirstItem) (n : ℕ) (old new : List CoreStatement) (next : ℕ) → Adds i n old new next → next ≡ n + count_of i
+adds_count i n old new next adds = omega (arith, lowers_count (i ∷ []) n adds.statements next adds.lowered)

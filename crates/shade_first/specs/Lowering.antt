@@ -55,17 +55,34 @@ pub data Lowers : List FirstItem → ℕ → List CoreStatement → ℕ → Type
   one_barrier : (n : ℕ) (p : Place) {is : List FirstItem} {ss : List CoreStatement} {m : ℕ} → Lowers is (n + 1) ss m → Lowers (item.Barrier p ∷ is) n (barrier n p ∷ ss) m
   one_branch : (n : ℕ) (p q : Place) (limit : ℕ) {inner is : List FirstItem} {body ss : List CoreStatement} {end m : ℕ} → Lowers inner (n + 2) body end → Lowers is end ss m → Lowers (item.If p q limit inner ∷ is) n (condition n q limit ∷ (branch (n + 1) p n body ∷ ss)) m
 
--- the function of a shader, whose statements these are, and its last one has this number
-abbrev pub function_of : FirstShader → List CoreStatement → ℕ → CoreFunction
-function_of s statements next = record {
+-- a list with the statements of an item behind it
+pub record Adds (i : FirstItem) (number : ℕ) (old new : List CoreStatement) (next : ℕ) : Type 0 where
+  pub statements : List CoreStatement
+  pub lowered : Lowers (i ∷ []) number statements next
+  pub more : new ≡ old ++ statements
+
+-- the statements of items, and a return at this place
+pub record Ends (is : List FirstItem) (end : Place) (body : List CoreStatement) : Type 0 where
+  pub statements : List CoreStatement
+  pub next : ℕ
+  pub lowered : Lowers is 0 statements next
+  pub more : body ≡ statements ++ last_return next end ∷ []
+
+-- the function of a shader, with this body
+abbrev pub function_with : FirstShader → List CoreStatement → CoreFunction
+function_with s body = record {
   name = s.name;
   place = s.place;
   params = Input LocalIndex ∷ [];
   locals = [];
   result = None;
   entry = Some (s.size ∷ (1 ∷ (1 ∷ [])));
-  body = statements ++ last_return next s.end ∷ [];
+  body = body;
 }
+
+-- the function of a shader, whose statements these are, and its last one has this number
+abbrev pub function_of : FirstShader → List CoreStatement → ℕ → CoreFunction
+function_of s statements next = function_with s (statements ++ last_return next s.end ∷ [])
 
 -- the module of a shader: the types u32 and bool, no roots, and one function
 pub record Stands (s : FirstShader) (m : CoreModule) : Type 0 where

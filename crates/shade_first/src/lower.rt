@@ -1,9 +1,9 @@
 // Makes the core module of a tree.
 
-ghost use Rattle.std.specs.Prelude.{◌≡◌, ◌+◌, ◌-◌, ◌^◌, ◌<◌, Contains, IfOk, OnOk, length};
+ghost use Rattle.std.specs.Prelude.{◌≡◌, ◌+◌, ◌-◌, ◌^◌, ◌<◌, ◌∷◌, [], Contains, IfOk, OnOk, IsErr, length};
 ghost use Rattle.shade_values.specs.Table.{with_type};
 ghost use Rattle.shade_first.specs.Lowering as rows;
-ghost use Rattle.shade_first.specs.Lowering.{Lowers, Stands, count_all, type_table};
+ghost use Rattle.shade_first.specs.Lowering.{Adds, Ends, Lowers, Stands, count_all, count_of, function_with, type_table};
 
 use crate::tree::{FirstItem, FirstShader};
 use shade_base::{Place, Severity};
@@ -22,25 +22,75 @@ pub fn lower(alloc: Global, shader: FirstShader) -> Result<CoreModule, AllocErro
     requires { count_all shader.items < 2 ^ 32 - 1 }
     ensures { IfOk result (λ m. Stands shader m) }
 {
-    let (mut body, next) = statements(alloc, &shader.items, 0)?;
-    body.push(last_return(next, shader.end))?;
-    let mut params = Items::new(alloc);
-    params.push(CoreParam::Input(BuiltinInput::LocalIndex))?;
-    let mut functions = Items::new(alloc);
-    functions.push(CoreFunction {
-        name: shader.name,
-        place: shader.place,
-        params,
-        locals: Items::new(alloc),
-        result: None,
-        entry: Some([shader.size, 1, 1]),
-        body,
-    })?;
-    Ok(CoreModule {
-        types: types(alloc)?,
-        roots: Items::new(alloc),
-        functions,
-    })
+    match body(alloc, &shader.items, shader.end) {
+        Ok(body) => module(alloc, function(alloc, shader, body)?),
+        Err(fault) => refuse(fault, shader),
+    }
+}
+
+// Refuses, and lets go of what was made before.
+fn refuse<T: Drop, H: Drop>(fault: AllocError, held: H) -> Result<T, AllocError>
+    ensures { IsErr result }
+{
+    Err(fault)
+}
+
+// The list of one item.
+fn only<T: Drop>(alloc: Global, item: T) -> Result<Items<T>, AllocError>
+    ensures { IfOk result (λ list. list ≡ item ∷ []) }
+{
+    let mut list = Items::new(alloc);
+    list.push(item)?;
+    Ok(list)
+}
+
+// The statements of a shader's items, and its last return.
+fn body(alloc: Global, items: &Items<FirstItem>, end: Place) -> Result<Statements, AllocError>
+    requires { count_all items.now < 2 ^ 32 - 1 }
+    ensures { IfOk result (λ list. Ends items.now end list) }
+{
+    let (mut list, next) = statements(alloc, items, 0)?;
+    list.push(last_return(next, end))?;
+    Ok(list)
+}
+
+// The function of a shader, with this body.
+fn function(
+    alloc: Global,
+    shader: FirstShader,
+    body: Statements,
+) -> Result<CoreFunction, AllocError>
+    ensures { IfOk result (λ f. f ≡ function_with shader body) }
+{
+    match only(alloc, CoreParam::Input(BuiltinInput::LocalIndex)) {
+        Ok(params) => Ok(CoreFunction {
+            name: shader.name,
+            place: shader.place,
+            params,
+            locals: Items::new(alloc),
+            result: None,
+            entry: Some([shader.size, 1, 1]),
+            body,
+        }),
+        Err(fault) => refuse(fault, (shader, body)),
+    }
+}
+
+// The module of one function.
+fn module(alloc: Global, function: CoreFunction) -> Result<CoreModule, AllocError>
+    ensures types { IfOk result (λ m. m.types ≡ type_table) }
+    ensures roots { IfOk result (λ m. m.roots ≡ []) }
+    ensures functions { IfOk result (λ m. m.functions ≡ function ∷ []) }
+{
+    let functions = only(alloc, function)?;
+    match types(alloc) {
+        Ok(types) => Ok(CoreModule {
+            types,
+            roots: Items::new(alloc),
+            functions,
+        }),
+        Err(fault) => refuse(fault, functions),
+    }
 }
 
 fn types(alloc: Global) -> Result<TypeTable, AllocError>
@@ -65,6 +115,7 @@ fn add(types: &mut TypeTable, scalar: Scalar) -> Result<(), AllocError>
 }
 
 // Makes the statements of items, numbered from a number on, and says which number comes next.
+#[cycle(statements)]
 fn statements(
     alloc: Global,
     items: &Items<FirstItem>,
@@ -76,25 +127,39 @@ fn statements(
     let mut made = Items::new(alloc);
     let mut next = number;
     'items: for item in items.as_slice() {
-        match item {
-            FirstItem::Barrier(place) => {
-                made.push(barrier(next, *place))?;
-                next += 1;
-            }
-            FirstItem::If {
-                place,
-                operator,
-                limit,
-                items,
-            } => {
-                let (body, end) = statements(alloc, items, next + 2)?;
-                made.push(condition(alloc, next, *operator, *limit)?)?;
-                made.push(branch(alloc, next + 1, *place, next, body))?;
-                next = end;
-            }
-        }
+        next = add_item(alloc, item, next, &mut made)?;
     }
     Ok((made, next))
+}
+
+// Adds the statements of an item, numbered from a number on, and says which number comes next.
+#[cycle(statements)]
+fn add_item(
+    alloc: Global,
+    item: &FirstItem,
+    number: u32,
+    made: &mut Statements,
+) -> Result<u32, AllocError>
+    requires { number + count_of item.now < 2 ^ 32 }
+    ensures { IfOk result (λ next. Adds item.now number made.old made.new next) }
+{
+    match item {
+        FirstItem::Barrier(place) => {
+            made.push(barrier(number, *place))?;
+            Ok(number + 1)
+        }
+        FirstItem::If {
+            place,
+            operator,
+            limit,
+            items,
+        } => {
+            made.push(condition(alloc, number, *operator, *limit)?)?;
+            let (body, next) = statements(alloc, items, number + 2)?;
+            made.push(branch(alloc, number + 1, *place, number, body))?;
+            Ok(next)
+        }
+    }
 }
 
 // The comparison of the parameter with a limit.

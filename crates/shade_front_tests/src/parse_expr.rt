@@ -2,9 +2,9 @@
 
 use crate::reading::place;
 use shade_ast::{Keyword, Names, Sign};
+use shade_cursor::piece::{Piece, key_at, mark_at, number_at, word_at};
+use shade_cursor::pieces::pieces_of;
 use shade_lex::{Suffix, lex, templates};
-use shade_parse_expr::piece::{Piece, key_at, mark_at, number_at, word_at};
-use shade_parse_expr::pieces::pieces_of;
 use shade_parse_expr::{Goal, SyntaxFault, expression};
 use std::alloc::{AllocError, Global};
 use std::test::Fail;

@@ -6,3 +6,4 @@ pub mod Exact
 pub mod Numbering
 pub mod GraphLaws
 pub mod ParamLaws
+pub mod Turns

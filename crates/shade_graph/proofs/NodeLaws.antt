@@ -1,4 +1,5 @@
 -- How nodes are compared: as their kind, their parameter or statement, and their part or argument are.
+use mathlib.Core.Bool.{true≢false}
 use Rattle.std.proofs.Common.{◌≡◌, ℕ, ◌<◌, refl, ap, sym, ◌∙◌, subst, arith, inl, inr, Bool, true}
 use Rattle.std.specs.Prelude.{nat_eq, ◌⊎◌}
 use Rattle.std.specs.declared.cmp.Ordering.{Ordering}
@@ -133,7 +134,7 @@ node_same (After i) (After j) e = ap After (nat_same i j e)
 node_same (Value i) (Value j) e = ap Value (nat_same i j e)
 node_same (Part i p) (Part j q) e = λ k. Part (nat_same i j (first_so _ _ e) k) (nat_same p q (second_so _ _ e) k)
 node_same (Stored i p) (Stored j q) e = λ k. Stored (nat_same i j (first_so _ _ e) k) (nat_same p q (second_so _ _ e) k)
-node_same _ _ e = cc
+node_same _ _ e = absurd (true≢false (sym e))
 
 nat_less : (a c : ℕ) → nat_cmp a c ≡ Less → a < c
 nat_less a c e = grind (arith, nat_tests)

@@ -129,6 +129,28 @@ fn add_inputs(params: &[CoreParam], pairs: &mut Vec<(Node, Node)>) -> Result<(),
     Ok(())
 }
 
+/// The ends of the edges of an entry's inputs. A function that is no entry has none.
+fn entry_pairs(alloc: Global, function: &CoreFunction) -> Result<Vec<(Node, Node)>, AllocError>
+    requires { length function.now.params < 2 ^ 32 }
+    ensures { IfOk result (λ pairs. pairs.items ≡ entry_pairs function.now) }
+{
+    let mut pairs = Vec::new(alloc);
+    if function.entry.is_some() {
+        add_inputs(function.params.as_slice(), &mut pairs)?;
+    }
+    Ok(pairs)
+}
+
+/// Adds the ends of the edges that statements give.
+fn add_ends(given: &[GivenEdge], pairs: &mut Vec<(Node, Node)>) -> Result<(), AllocError>
+    ensures { IfOk result (λ _. pairs.new.items ≡ pairs.old.items ++ map ends given.now) }
+{
+    'given: for edge in given {
+        pairs.push((edge.from, edge.to))?;
+    }
+    Ok(())
+}
+
 /// The ends of all edges: those of an entry's inputs, and those that statements give.
 fn pairs_of(
     alloc: Global,
@@ -138,13 +160,8 @@ fn pairs_of(
     requires { length function.now.params < 2 ^ 32 }
     ensures { IfOk result (λ pairs. pairs.items ≡ entry_pairs function.now ++ map ends given.now) }
 {
-    let mut pairs = Vec::new(alloc);
-    if function.entry.is_some() {
-        add_inputs(function.params.as_slice(), &mut pairs)?;
-    }
-    'given: for edge in given {
-        pairs.push((edge.from, edge.to))?;
-    }
+    let mut pairs = entry_pairs(alloc, function)?;
+    add_ends(given, &mut pairs)?;
     Ok(pairs)
 }
 

@@ -1,5 +1,6 @@
 -- The best of some rows.
 use Rattle.std.proofs.Common.{◌≡◌, sym, subst, List, [], ◌∷◌, Option, Some, None, arith}
+use Rattle.std.specs.Prelude.{IfSome, OnSome, IfNone}
 use Rattle.shade_values.specs.declared.types.Scalar.{Scalar}
 use Rattle.shade_values.specs.declared.types.ShadeType.{ShadeType}
 use Rattle.shade_overload.specs.declared.overload.Overload.{Overload}
@@ -33,3 +34,10 @@ chosen_within P Q first types (Some o) there back best = record {
   near = λ other q h. best.near other (back other q h) h;
 }
 chosen_within P Q first types None there back none = λ o q h. none o (back o q h) h
+
+-- of rows with only such parameters the one that is tried is chosen, if the types become them
+pub only_chosen : (Rows : Overload → Type 0) (first : Scalar) (types : List ShadeType) (row : Overload) (r : Option Overload) → Rows row
+    → ((other : Overload) → Rows other → BecomeAll types other.params → other.params ≡ row.params)
+    → IfSome r (λ o. o ≡ row) → OnSome r (BecomeAll types row.params) → IfNone r (¬ BecomeAll types row.params) → IsChosen Rows first types r
+only_chosen Rows first types row (Some o) fits only is taken refused = subst (IsBest Rows first types) (sym is) (only_best Rows first types row fits taken only)
+only_chosen Rows first types row None fits only is taken refused = only_refused Rows types row.params refused only

@@ -5,3 +5,4 @@ pub mod MemoryLaws
 pub mod VectorLaws
 pub mod RowLaws
 pub mod OneBest
+pub mod ResultLaws

@@ -1,5 +1,6 @@
 -- The rows over memory: their first argument is a pointer, which decides all.
-use Rattle.std.proofs.Common.{◌≡◌, ◌≢◌, refl, sym, ap, subst, ◌∙◌, List, [], ◌∷◌, Some, slice_get, false}
+use Rattle.std.proofs.Common.{◌≡◌, ◌≢◌, refl, sym, ap, subst, ◌∙◌, List, [], ◌∷◌, Option, Some, None, slice_get, false}
+use Rattle.std.specs.Prelude.{IsTrue, IfSome, OnSome, IfNone}
 use Rattle.shade_values.specs.declared.types.Space.TheVariants as space
 use Rattle.shade_values.specs.Shape.{shape_of}
 use Rattle.shade_values.specs.Layouts.{is_loadable}
@@ -15,9 +16,9 @@ use Rattle.shade_values.specs.Table.{Table}
 use Rattle.shade_values.specs.Takes.{Names}
 use Rattle.shade_overload.specs.declared.memory.Atomics.{Atomics}
 use Rattle.shade_overload.specs.declared.overload.Overload.{Overload}
-use Rattle.shade_overload.specs.Best.{IsBest, IsRefused}
+use Rattle.shade_overload.specs.Best.{IsChosen, IsRefused}
 use Rattle.shade_overload.specs.Conversions.{Becomes, BecomeAll}
-use Rattle.shade_overload.proofs.BestLaws.{only_best, only_refused}
+use Rattle.shade_overload.proofs.BestLaws.{only_chosen}
 use Rattle.shade_overload.specs.Rows.{LengthRow, LoadRow, BarrierRow}
 use Rattle.shade_overload.specs.Patterns.{AtomicRows, PointsTo, values_of, given_by}
 
@@ -65,14 +66,16 @@ atomic_only t op a types pointer s points o (is, (in_space, access, id, x, names
     let same : x ≡ s = cc in
     e ∙ ap (λ p. p ∷ values_of a x) it.pointer_is ∙ ap (λ y. pointer ∷ values_of a y) same
 
-pub atomic_is : (t : Table) (op : Op) (a : Atomics) (types : List ShadeType) (pointer : ShadeType) (s : Scalar) → PointsTo t types pointer (type.Atomic s)
-    → AtomicRows t op a (record { op = Some op; params = pointer ∷ values_of a s; result = given_by a s })
-atomic_is t op a types pointer s points = (refl, (points.in_space, points.access, points.id, s, points.names, ap (λ p. p ∷ values_of a s) points.is, refl))
-
-pub atomic_best : (t : Table) (op : Op) (a : Atomics) (types : List ShadeType) (pointer : ShadeType) (s : Scalar) → PointsTo t types pointer (type.Atomic s)
-    → BecomeAll types (pointer ∷ values_of a s) → IsBest (AtomicRows t op a) scalar.I32 types (record { op = Some op; params = pointer ∷ values_of a s; result = given_by a s })
-atomic_best t op a types pointer s points taken =
-    only_best (AtomicRows t op a) scalar.I32 types _ (atomic_is t op a types pointer s points) taken (atomic_only t op a types pointer s points)
+pub atomic_row_chosen : (t : Table) (op : Op) (a : Atomics) (types params : List ShadeType) (pointer pointee : ShadeType) (s : Scalar) (result : Option ShadeType) (r : Option Overload)
+    → PointsTo t types pointer pointee → pointee ≡ type.Atomic s → params ≡ pointer ∷ values_of a s → result ≡ given_by a s
+    → let row : Overload = record { op = Some op; params = params; result = result } in
+    IfSome r (λ o. o ≡ row) → OnSome r (BecomeAll types params) → IfNone r (¬ BecomeAll types params) → IsChosen (AtomicRows t op a) scalar.I32 types r
+atomic_row_chosen t op a types params pointer pointee s result r points at params_are result_is =
+    let row : Overload = record { op = Some op; params = params; result = result } in
+    let there : PointsTo t types pointer (type.Atomic s) = subst (PointsTo t types pointer) at points in
+    only_chosen (AtomicRows t op a) scalar.I32 types row r
+    (refl, (there.in_space, there.access, there.id, s, there.names, params_are ∙ ap (λ p. p ∷ values_of a s) there.is, result_is))
+    (λ o w h. atomic_only t op a types pointer s there o w h ∙ sym params_are)
 
 -- ---- the length of an array, and the uniform load
 
@@ -94,8 +97,32 @@ load_only t types pointer pointee points o (access, id, ty, names, loads, e) h =
     let is : o.params ≡ type.Pointer space.Workgroup id access ∷ [] = ap (λ x. x.params) e in
     is ∙ ap (λ p. p ∷ []) (that t types o.params [] pointer pointee space.Workgroup id access points is h).pointer_is
 
-pub load_refused : (t : Table) (types : List ShadeType) (pointer pointee : ShadeType) → PointsTo t types pointer pointee → ¬ BecomeAll types (pointer ∷ []) → IsRefused (LoadRow t) types
-load_refused t types pointer pointee points none = only_refused (LoadRow t) types (pointer ∷ []) none (load_only t types pointer pointee points)
+-- a row of a pointer alone, which the pointer decides
+pub load_chosen : (t : Table) (types params : List ShadeType) (pointer pointee : ShadeType) (in_space : Space) (id : TypeId) (access : Access) (r : Option Overload)
+    → PointsTo t types pointer pointee → pointer ≡ type.Pointer in_space id access → in_space ≡ space.Workgroup → IsTrue (is_loadable (shape_of t id)) → params ≡ pointer ∷ []
+    → let row : Overload = record { op = None; params = params; result = Some pointee } in
+    IfSome r (λ o. o ≡ row) → OnSome r (BecomeAll types params) → IfNone r (¬ BecomeAll types params) → IsChosen (LoadRow t) scalar.I32 types r
+load_chosen t types params pointer pointee in_space id access r points is here loads params_are =
+    let at : pointer ≡ type.Pointer space.Workgroup id access = is ∙ ap (λ s. type.Pointer s id access) here in
+    let same : points.id ≡ id = (let both : type.Pointer points.in_space points.id points.access ≡ type.Pointer space.Workgroup id access = sym points.is ∙ at in cc) in
+    only_chosen (LoadRow t) scalar.I32 types (record { op = None; params = params; result = Some pointee }) r
+    (access, id, pointee, subst (λ i. Names t i pointee) same points.names, loads, ap (λ p. record { op = None; params = p; result = Some pointee }) (params_are ∙ ap (λ p. p ∷ []) at))
+    (λ o w h. load_only t types pointer pointee points o w h ∙ sym params_are)
+
+length_only : (t : Table) (types : List ShadeType) (pointer pointee : ShadeType) → PointsTo t types pointer pointee
+    → (o : Overload) → LengthRow t o → BecomeAll types o.params → o.params ≡ pointer ∷ []
+length_only t types pointer pointee points o (in_space, access, id, element, names, e) h =
+    let is : o.params ≡ type.Pointer in_space id access ∷ [] = ap (λ x. x.params) e in
+    is ∙ ap (λ p. p ∷ []) (that t types o.params [] pointer pointee in_space id access points is h).pointer_is
+
+pub length_chosen : (t : Table) (types params : List ShadeType) (pointer pointee : ShadeType) (element : TypeId) (r : Option Overload)
+    → PointsTo t types pointer pointee → pointee ≡ type.RuntimeArray element → params ≡ pointer ∷ []
+    → let row : Overload = record { op = None; params = params; result = Some (type.Plain scalar.U32) } in
+    IfSome r (λ o. o ≡ row) → OnSome r (BecomeAll types params) → IfNone r (¬ BecomeAll types params) → IsChosen (LengthRow t) scalar.I32 types r
+length_chosen t types params pointer pointee element r points at params_are =
+    only_chosen (LengthRow t) scalar.I32 types (record { op = None; params = params; result = Some (type.Plain scalar.U32) }) r
+    (points.in_space, points.access, points.id, element, points.names ∙ ap (λ x. Some x) at, ap (λ p. record { op = None; params = p; result = Some (type.Plain scalar.U32) }) (params_are ∙ ap (λ p. p ∷ []) points.is))
+    (λ o w h. length_only t types pointer pointee points o w h ∙ sym params_are)
 
 pub load_unknown : (t : Table) (types : List ShadeType) (pointer pointee : ShadeType) (in_space : Space) (known : TypeId) (access : Access) → PointsTo t types pointer pointee
     → pointer ≡ type.Pointer in_space known access → is_loadable (shape_of t known) ≡ false → IsRefused (LoadRow t) types
@@ -104,3 +131,9 @@ load_unknown t types pointer pointee in_space known access points is not o (how,
     let same : id ≡ known = cc in
     let no_load : is_loadable (shape_of t id) ≡ false = subst (λ i. is_loadable (shape_of t i) ≡ false) (sym same) not in
     absurd (cc (no_load, loads))
+
+pub load_elsewhere : (t : Table) (types : List ShadeType) (pointer pointee : ShadeType) (in_space : Space) (known : TypeId) (access : Access) → PointsTo t types pointer pointee
+    → pointer ≡ type.Pointer in_space known access → in_space ≢ space.Workgroup → IsRefused (LoadRow t) types
+load_elsewhere t types pointer pointee in_space known access points is other o (how, id, ty, names, loads, e) h =
+    let at : type.Pointer space.Workgroup id how ≡ pointer = (that t types o.params [] pointer pointee space.Workgroup id how points (ap (λ x. x.params) e) h).pointer_is in
+    other (cc)

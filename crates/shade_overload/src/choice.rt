@@ -1,7 +1,8 @@
 //! The row of a pattern that takes some types.
 
-ghost use Rattle.std.specs.Prelude.{◌≡◌, ◌≤◌, ℕ, Option, IfSome, IfNone};
+ghost use Rattle.std.specs.Prelude.{◌≡◌, ◌≤◌, ℕ, Option, IfSome, IfNone, OnSome};
 ghost use Rattle.shade_overload.specs.Best.{IsChosen};
+ghost use Rattle.shade_overload.specs.Conversions.{BecomeAll};
 ghost use Rattle.shade_overload.specs.Patterns.{PatternRows, IsAttempt, IsFound, made, Suits, by_distance, BeginsWith, EndsIn};
 
 use crate::conversion::{all_become, form_of};
@@ -20,6 +21,19 @@ pub(crate) fn by_distance(first: Scalar) -> [Scalar; 4]
     }
 }
 
+/// The row, if the types become its parameters.
+pub(crate) fn taking(row: Overload, types: &[ShadeType]) -> Option<Overload>
+    ensures row { IfSome result (λ o. o ≡ row) }
+    ensures taken { OnSome result (BecomeAll types.now row.params) }
+    ensures refused { IfNone result (¬ BecomeAll types.now row.params) }
+{
+    if all_become(types, &row.params) {
+        Some(row)
+    } else {
+        None
+    }
+}
+
 /// The row for one scalar, if the types become its parameters.
 fn attempt(
     alloc: Global,
@@ -35,15 +49,12 @@ fn attempt(
     if !pattern.kind().has(scalar) {
         return None;
     }
-    let params = pattern.params(alloc, first, last, scalar);
-    if !all_become(types, &params) {
-        return None;
-    }
-    Some(Overload {
+    let row = Overload {
         op: Some(op),
-        params,
+        params: pattern.params(alloc, first, last, scalar),
         result: Some(pattern.gives(first, last, scalar)),
-    })
+    };
+    taking(row, types)
 }
 
 /// The row for the nearest scalar, by the forms of the first and the last argument.

@@ -11,7 +11,7 @@ ghost use Rattle.shade_overload.specs.Best.{IsChosen};
 ghost use Rattle.shade_overload.specs.Rows.{LengthRow, LoadRow, BarrierRow};
 ghost use Rattle.shade_overload.specs.Patterns.{AtomicRows, PointsTo, values_of, given_by};
 
-use crate::conversion::all_become;
+use crate::choice::taking;
 use crate::overload::Overload;
 use crate::params::ParamTypes;
 use shade_values::{Op, Scalar, ShadeType, Space, TypeTable};
@@ -57,6 +57,7 @@ impl Atomics {
 fn pointee(table: &TypeTable, types: &[ShadeType]) -> Option<(ShadeType, ShadeType)>
     requires { All (IsOf table.now) types.now }
     ensures some { IfSome result (λ r. PointsTo table.now types.now r.0 r.1) }
+    ensures of { IfSome result (λ r. IsOf table.now r.1) }
     ensures none { IfNone result ((in_space : AnySpace) (id : AnyId) (access : AnyAccess) → slice_get types.now 0 ≢ Some (type.Pointer in_space id access)) }
 {
     let [pointer, ..] = types else {
@@ -83,15 +84,12 @@ pub(crate) fn atomic_row(
     let ShadeType::Atomic(scalar) = pointee else {
         return None;
     };
-    let params = atomics.params(alloc, pointer, scalar);
-    if !all_become(types, &params) {
-        return None;
-    }
-    Some(Overload {
+    let row = Overload {
         op: Some(op),
-        params,
+        params: atomics.params(alloc, pointer, scalar),
         result: atomics.gives(scalar),
-    })
+    };
+    taking(row, types)
 }
 
 /// `arrayLength`, of a pointer to a runtime-sized array.
@@ -103,38 +101,36 @@ pub(crate) fn length_row(alloc: Global, table: &TypeTable, types: &[ShadeType]) 
     let ShadeType::RuntimeArray(_) = pointee else {
         return None;
     };
-    let params = ParamTypes::of(alloc, &[pointer]);
-    if !all_become(types, &params) {
-        return None;
-    }
-    Some(Overload {
+    let row = Overload {
         op: None,
-        params,
+        params: ParamTypes::of(alloc, &[pointer]),
         result: Some(ShadeType::Plain(Scalar::U32)),
-    })
+    };
+    taking(row, types)
 }
 
 /// `workgroupUniformLoad`, of a pointer to loadable data of the workgroup.
 pub(crate) fn load_row(alloc: Global, table: &TypeTable, types: &[ShadeType]) -> Option<Overload>
     requires { All (IsOf table.now) types.now }
-    ensures { IsChosen (LoadRow table.now) scalar.I32 types.now result }
+    ensures best { IsChosen (LoadRow table.now) scalar.I32 types.now result }
+    ensures of { IfSome result (λ o. IfSome o.result (IsOf table.now)) }
 {
     let (pointer, pointee) = pointee(table, types)?;
-    let ShadeType::Pointer(Space::Workgroup, id, _) = pointer else {
+    let ShadeType::Pointer(space, id, _) = pointer else {
         return None;
     };
+    if space != Space::Workgroup {
+        return None;
+    }
     if !table.is_loadable(id) {
         return None;
     }
-    let params = ParamTypes::of(alloc, &[pointer]);
-    if !all_become(types, &params) {
-        return None;
-    }
-    Some(Overload {
+    let row = Overload {
         op: None,
-        params,
+        params: ParamTypes::of(alloc, &[pointer]),
         result: Some(pointee),
-    })
+    };
+    taking(row, types)
 }
 
 /// A barrier, of no arguments.

@@ -39,6 +39,7 @@ pub fn choose(
     ensures refused { IfNone result (IsRefused (IsRow table.now builtin) types.now) }
     ensures operation { IfSome result (λ o. (o.op ≡ None) ↔ HasNoOperation builtin) }
     ensures value { IfSome result (λ o. (o.result ≡ None) ↔ HasNoResult builtin) }
+    ensures of { IfSome result (λ o. IfSome o.result (IsOf table.now)) }
 {
     row_of(alloc, table, builtin, types)
 }
@@ -50,7 +51,8 @@ fn row_of(
     types: &[ShadeType],
 ) -> Option<Overload>
     requires { All (IsOf table.now) types.now }
-    ensures { IsChosen (IsRow table.now builtin) (first_choice builtin) types.now result }
+    ensures best { IsChosen (IsRow table.now builtin) (first_choice builtin) types.now result }
+    ensures loaded { builtin ≡ Builtin.WorkgroupUniformLoad → IfSome result (λ o. IfSome o.result (IsOf table.now)) }
 {
     if let Some((op, pattern)) = operator(builtin).or(function(builtin)) {
         return chosen(alloc, op, pattern, first_choice(builtin), types);

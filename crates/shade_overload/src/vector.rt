@@ -8,8 +8,7 @@ ghost use Rattle.shade_overload.specs.Best.{IsChosen};
 ghost use Rattle.shade_overload.specs.Rows.{VectorRow, Common, Written, BitcastRow, written_first};
 ghost use Rattle.shade_overload.specs.Patterns.{IsAttempt, IsFound, ArePartsOf, made_of_parts, parts_of, Fill, IsSingle, IsVector, MakeUp, recast};
 
-use crate::choice::{by_distance, chosen};
-use crate::conversion::all_become;
+use crate::choice::{by_distance, chosen, taking};
 use crate::overload::Overload;
 use crate::params::ParamTypes;
 use crate::pattern::{Kind, Pattern};
@@ -99,15 +98,12 @@ fn from_parts(alloc: Global, count: u8, scalar: Scalar, types: &[ShadeType]) -> 
     if !make_up(types, count) {
         return None;
     }
-    let params = recast_all(alloc, scalar, types);
-    if !all_become(types, &params) {
-        return None;
-    }
-    Some(Overload {
+    let row = Overload {
         op: Some(Op::Vector(count, scalar)),
-        params,
+        params: recast_all(alloc, scalar, types),
         result: Some(ShadeType::Vector(count, scalar)),
-    })
+    };
+    taking(row, types)
 }
 
 /// The vector of parts that have a scalar in common.

@@ -10,16 +10,17 @@ use Rattle.shade_ast.specs.Expressions.{plain_type}
 use Rattle.shade_ast.specs.Statements.{Name, name, Attribute, OfType, of_type, HasValue, Const, const, Var, Block, block, no_statement}
 use Rattle.shade_ast.specs.Declarations.{MemberOf, a_member, ResultOf, Declaration, no_declaration, alias, constant, assertion, struct, variable, overridable, function}
 use Rattle.shade_ast.specs.Reads.{Near, Reads, Fails, rank, rank_of}
-use Rattle.shade_ast.proofs.Stages.{Stage, After, Ends, Closes, near_get, begin, change, stuck, closes_end, closes_after}
-use Rattle.shade_ast.proofs.Heads.{Headed}
-use Rattle.shade_ast.proofs.Placed.{Placed, placed_closes, name_closes, name_begins, some_place, some_name}
+use Rattle.shade_ast.proofs.Stages.{Stage, Closes, near_get, begin, change, stuck, closes_end, closes_after}
+use Rattle.shade_ast.specs.Chains.{After, Ends, Headed, Placed}
+use Rattle.shade_ast.proofs.Placed.{placed_closes, name_closes, name_begins, some_place, some_name}
 use Rattle.shade_parse_expr.proofs.Chains.{then_reads, then_fails}
-use Rattle.shade_parse.specs.Maybes.{Stands, ReadsMaybe}
-use Rattle.shade_parse.specs.Rests.{bound, Enclosed, enclosed, PlainAt, OverrideShape, OverrideRest, FnShape, FnRest}
+use Rattle.shade_parse_simple.specs.Maybes.{Stands, ReadsMaybe}
+use Rattle.shade_parse_simple.specs.Rests.{bound}
+use Rattle.shade_parse.specs.Rests.{Enclosed, enclosed, PlainAt, OverrideShape, OverrideRest, FnShape, FnRest}
 use Rattle.shade_parse.specs.Wholes.{BeginsDirective}
-use Rattle.shade_parse.proofs.Steps.{Stops, Avoids, end_stops, token_stops, token_avoids, maybe_stops, maybe_avoids, maybe_closes, next, next_fails, token, token_or, no_token, not_here, begins_not_here, either_avoids, either_stops, left, right, ended, maybe, maybe_fails}
-use Rattle.shade_parse.proofs.Openings.{begins_stops, begins_avoids}
-use Rattle.shade_parse.proofs.BindingLaws.{of_type_first, has_value_first, no_colon, var_begins}
+use Rattle.shade_parse_simple.proofs.Steps.{Stops, Avoids, end_stops, token_stops, token_avoids, maybe_stops, maybe_avoids, maybe_closes, next, next_fails, token, token_or, no_token, not_here, begins_not_here, either_avoids, either_stops, left, right, ended, maybe, maybe_fails}
+use Rattle.shade_parse_simple.proofs.Openings.{begins_stops, begins_avoids}
+use Rattle.shade_parse_simple.proofs.BindingLaws.{of_type_first, has_value_first, no_colon, var_begins}
 use Rattle.shade_parse.proofs.MemberLaws.{member_of, attrs_begin, result_first, block_stops, block_avoids}
 use Rattle.shade_parse.proofs.PlainLaws.{Closed, closed_fails, closed_stuck, plain_by, plain_rank, plain_no_directive}
 

@@ -24,19 +24,21 @@ use Rattle.shade_ast.specs.Expressions.{TypeName, Expression}
 use Rattle.shade_ast.specs.Statements.{Name, Attribute, OfType, HasValue, Var as VarPhrase, Block as BlockPhrase}
 use Rattle.shade_ast.specs.Declarations.{MemberOf, ResultOf, Declaration}
 use Rattle.shade_ast.specs.Reads.{Reads}
-use Rattle.shade_ast.proofs.Heads.{Headed}
+use Rattle.shade_ast.specs.Chains.{Headed}
 use Rattle.shade_ast.proofs.Stages.{begin}
 use Rattle.shade_ast.proofs.ShapeLaws.{decl_grows, list_grows}
 use Rattle.shade_parse_expr.proofs.Trees.{count_join}
-use Rattle.shade_parse.specs.declared.read.Read.{Read}
-use Rattle.shade_parse.specs.declared.items.ItemList.{ItemList}
+use Rattle.shade_parse_simple.specs.declared.read.Read.{Read}
+use Rattle.shade_parse.specs.declared.members.ItemList.{ItemList}
 use Rattle.shade_parse.specs.declared.declarations.OverrideBody.{OverrideBody}
 use Rattle.shade_parse.specs.declared.declarations.FnBody.{FnBody}
-use Rattle.shade_parse.specs.Maybes.{MaybeOf}
-use Rattle.shade_parse.specs.Readings.{Seen, ReadsOf, attrs_seen, named_seen, expr_seen, member_seen, result_seen, enclosed_seen, var_seen, binding_seen, block_seen, decl_kind_seen, decl_seen, first_of}
-use Rattle.shade_parse.specs.Parts.{override_seen, fn_seen}
-use Rattle.shade_parse.specs.Rests.{Bound, Enclosed, AliasRest, ConstRest, AssertRest, StructRest, PlainAt, OverrideRest, FnRest}
-use Rattle.shade_parse.proofs.Widens.{Keeps}
+use Rattle.shade_parse_simple.specs.Maybes.{MaybeOf}
+use Rattle.shade_parse_simple.specs.Readings.{Seen, ReadsOf, attrs_seen, named_seen, expr_seen, var_seen, binding_seen, first_of}
+use Rattle.shade_parse.specs.Parts.{member_seen, result_seen, enclosed_seen, decl_kind_seen, decl_seen, override_seen, fn_seen}
+use Rattle.shade_parse_stmt.specs.StatementParts.{block_seen}
+use Rattle.shade_parse_simple.specs.Rests.{Bound}
+use Rattle.shade_parse.specs.Rests.{Enclosed, AliasRest, ConstRest, AssertRest, StructRest, PlainAt, OverrideRest, FnRest}
+use Rattle.shade_parse_simple.proofs.Widens.{Keeps}
 use Rattle.shade_parse.proofs.MemberTrees.{first_same}
 use Rattle.shade_parse.proofs.PlainLaws.{closed_reads, alias_equal, struct_reads, plain_reads, plain_empty}
 use Rattle.shade_parse.proofs.DeclarationLaws.{override_reads, fn_reads, var_shape_of, decl_fn_reads, decl_override_reads, decl_var, decl_plain_reads, some_members}

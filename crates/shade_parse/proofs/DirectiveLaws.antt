@@ -9,12 +9,14 @@ use Rattle.shade_ast.specs.Repeats.{Listed}
 use Rattle.shade_ast.specs.Statements.{Name, name, MaybeMark}
 use Rattle.shade_ast.specs.Declarations.{RuleOf, rule, dotted_rule, DirectiveOf, diagnostic, requires_names, enables_names}
 use Rattle.shade_ast.specs.Reads.{Near, Reads, Fails, rank}
-use Rattle.shade_ast.proofs.Stages.{Stage, After, Ends, Closes, near_get, begin, change, stuck, closes_end, closes_after}
-use Rattle.shade_ast.proofs.Heads.{Headed, take_head}
-use Rattle.shade_ast.proofs.Placed.{Placed, placed_closes, name_closes, name_begins, some_place, some_name}
-use Rattle.shade_parse.specs.Rests.{Ending, ending, Enclosed, enclosed, DiagnosticRest, DirectiveAt}
-use Rattle.shade_parse.proofs.Steps.{Stops, end_stops, end_avoids, token_stops, next, next_fails, token, token_or, no_token, not_here, right, ended}
-use Rattle.shade_parse.proofs.Endings.{ending_closes, ending_stops}
+use Rattle.shade_ast.proofs.Stages.{Stage, Closes, near_get, begin, change, stuck, closes_end, closes_after}
+use Rattle.shade_ast.specs.Chains.{After, Ends, Headed, Placed}
+use Rattle.shade_ast.proofs.Heads.{take_head}
+use Rattle.shade_ast.proofs.Placed.{placed_closes, name_closes, name_begins, some_place, some_name}
+use Rattle.shade_parse_simple.specs.Rests.{Ending, ending}
+use Rattle.shade_parse.specs.Rests.{Enclosed, enclosed, DiagnosticRest, DirectiveAt}
+use Rattle.shade_parse_simple.proofs.Steps.{Stops, end_stops, end_avoids, token_stops, next, next_fails, token, token_or, no_token, not_here, right, ended}
+use Rattle.shade_parse_simple.proofs.Endings.{ending_closes, ending_stops}
 use Rattle.shade_parse_expr.proofs.Chains.{then_reads, then_fails}
 
 -- rules

@@ -19,11 +19,13 @@ use Rattle.shade_ast.specs.Declarations.{RuleOf, DirectiveOf}
 use Rattle.shade_ast.specs.Reads.{Reads}
 use Rattle.shade_ast.proofs.ShapeLaws.{shape_grows, rule_same, directive_grows}
 use Rattle.shade_parse_expr.proofs.Trees.{count_join}
-use Rattle.shade_parse.specs.declared.read.Read.{Read}
-use Rattle.shade_parse.specs.declared.items.ItemList.{ItemList}
-use Rattle.shade_parse.specs.Readings.{ReadsOf, named_seen, enclosed_seen, rule_seen, directive_kind_seen, directive_seen}
-use Rattle.shade_parse.specs.Rests.{Ending, Enclosed, DiagnosticRest, DirectiveAt}
-use Rattle.shade_parse.proofs.Widens.{Keeps}
+use Rattle.shade_parse_simple.specs.declared.read.Read.{Read}
+use Rattle.shade_parse.specs.declared.members.ItemList.{ItemList}
+use Rattle.shade_parse_simple.specs.Readings.{ReadsOf, named_seen}
+use Rattle.shade_parse.specs.Parts.{enclosed_seen, rule_seen, directive_kind_seen, directive_seen}
+use Rattle.shade_parse_simple.specs.Rests.{Ending}
+use Rattle.shade_parse.specs.Rests.{Enclosed, DiagnosticRest, DirectiveAt}
+use Rattle.shade_parse_simple.proofs.Widens.{Keeps}
 use Rattle.shade_parse.proofs.DirectiveLaws.{rule_plain, rule_scoped, diagnostic_reads, directive_reads, built_reads}
 
 pub rule_keeps : Keeps rule_seen

@@ -6,11 +6,12 @@ use Rattle.shade_ast.specs.declared.lexeme.Sign.TheVariants as sign
 use Rattle.shade_ast.specs.Lexemes.{Lexeme, Mark}
 use Rattle.shade_ast.specs.Repeats.{Listed, last, last_comma, comma, MaybeListed, nothing, something}
 use Rattle.shade_ast.specs.Reads.{Reads, Fails, rank, sign_rank}
-use Rattle.shade_ast.proofs.Stages.{Stage, After, Ends, Closes, begin, change}
-use Rattle.shade_ast.proofs.Placed.{Placed, some_place}
+use Rattle.shade_ast.proofs.Stages.{Stage, Closes, begin, change}
+use Rattle.shade_ast.specs.Chains.{After, Ends, Placed}
+use Rattle.shade_ast.proofs.Placed.{some_place}
 use Rattle.shade_parse_expr.proofs.Chains.{then_reads, then_fails}
 use Rattle.shade_parse.specs.Rests.{Enclosed, enclosed}
-use Rattle.shade_parse.proofs.Steps.{Stops, next, next_fails, token, token_or, no_token, token_avoids, not_here, right, ended}
+use Rattle.shade_parse_simple.proofs.Steps.{Stops, next, next_fails, token, token_or, no_token, token_avoids, not_here, right, ended}
 
 abbrev pub shut : {R : Type 0} → List R → Bool → Place → (List R × Bool) × Place
 shut rs trailing p = ((rs, trailing), p)

@@ -8,12 +8,13 @@ use Rattle.shade_ast.specs.Lexemes.{Lexeme, Mark}
 use Rattle.shade_ast.specs.Names.{Grows}
 use Rattle.shade_ast.specs.Repeats.{Listed, MaybeListed}
 use Rattle.shade_ast.specs.Reads.{Fails, sign_rank}
-use Rattle.shade_parse.specs.declared.read.Read.{Read}
-use Rattle.shade_parse.specs.declared.items.ItemList.{ItemList}
-use Rattle.shade_parse.specs.Readings.{Seen, ReadsOf, enclosed_seen}
+use Rattle.shade_parse_simple.specs.declared.read.Read.{Read}
+use Rattle.shade_parse.specs.declared.members.ItemList.{ItemList}
+use Rattle.shade_parse_simple.specs.Readings.{Seen, ReadsOf}
+use Rattle.shade_parse.specs.Parts.{enclosed_seen}
 use Rattle.shade_parse.specs.Rests.{Enclosed}
-use Rattle.shade_parse.proofs.Widens.{Keeps}
-use Rattle.shade_parse.proofs.Turns.{Turn, turn_first, turn_shapes, turn_known, turn_nodes, turn_more}
+use Rattle.shade_parse_simple.proofs.Widens.{Keeps}
+use Rattle.shade_parse_simple.proofs.Turns.{Turn, turn_first, turn_shapes, turn_known, turn_nodes, turn_more}
 use Rattle.shade_parse.proofs.Enclosing.{Item, listed_begin, choose_close, choose_item, item_fails, item_close, item_stuck, item_comma, maybe_none, maybe_reads}
 
 -- the items so far, and one more to come

@@ -10,13 +10,14 @@ use Rattle.shade_ast.specs.Expressions.{TypeName}
 use Rattle.shade_ast.specs.Statements.{Name, name, Attribute, OfType, Block, block}
 use Rattle.shade_ast.specs.Declarations.{MemberOf, a_member, ResultOf, result}
 use Rattle.shade_ast.specs.Reads.{Reads, Fails, rank, rank_of}
-use Rattle.shade_ast.proofs.Stages.{Stage, After, Ends, Closes, begin, change, closes_end, closes_after}
-use Rattle.shade_ast.proofs.Placed.{Placed, name_closes, name_begins}
+use Rattle.shade_ast.proofs.Stages.{Stage, Closes, begin, change, closes_end, closes_after}
+use Rattle.shade_ast.specs.Chains.{After, Ends, Placed}
+use Rattle.shade_ast.proofs.Placed.{name_closes, name_begins}
 use Rattle.shade_ast.proofs.Firsts.{First, IsName, type_first}
-use Rattle.shade_parse.proofs.Steps.{Stops, Avoids, BeginsWith, end_stops, name_stops, next, next_fails, ended}
-use Rattle.shade_parse.proofs.Openings.{Opens, opened_first, opened_closes, begins_stops, type_closes, of_type_opens}
-use Rattle.shade_parse.proofs.AttributeLaws.{attribute_first}
-use Rattle.shade_parse.proofs.BindingLaws.{of_type_first}
+use Rattle.shade_parse_simple.proofs.Steps.{Stops, Avoids, BeginsWith, end_stops, name_stops, next, next_fails, ended}
+use Rattle.shade_parse_simple.proofs.Openings.{Opens, opened_first, opened_closes, begins_stops, type_closes, of_type_opens}
+use Rattle.shade_parse_simple.proofs.AttributeLaws.{attribute_first}
+use Rattle.shade_parse_simple.proofs.BindingLaws.{of_type_first}
 use Rattle.shade_parse.proofs.ListTurns.{Listable}
 
 pub type_stops : {S : Type 0} {C : ExprShape → S → List Lexeme → List Lexeme → Type 0} (n m : ℕ) → m < 9 → Stops n m (After TypeName C)

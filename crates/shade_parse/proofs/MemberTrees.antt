@@ -17,11 +17,12 @@ use Rattle.shade_ast.specs.Declarations.{MemberOf, ResultOf}
 use Rattle.shade_ast.specs.Reads.{Reads}
 use Rattle.shade_ast.proofs.ShapeLaws.{shape_grows, member_grows, result_same}
 use Rattle.shade_parse_expr.proofs.Trees.{count_join}
-use Rattle.shade_parse.specs.declared.read.Read.{Read}
-use Rattle.shade_parse.specs.Readings.{ReadsOf, attrs_seen, named_seen, expr_seen, member_seen, result_seen, first_of}
-use Rattle.shade_parse.specs.Maybes.{MaybeOf}
-use Rattle.shade_parse.proofs.Widens.{Keeps}
-use Rattle.shade_parse.proofs.Openings.{opened_reads}
+use Rattle.shade_parse_simple.specs.declared.read.Read.{Read}
+use Rattle.shade_parse_simple.specs.Readings.{ReadsOf, attrs_seen, named_seen, expr_seen, first_of}
+use Rattle.shade_parse.specs.Parts.{member_seen, result_seen}
+use Rattle.shade_parse_simple.specs.Maybes.{MaybeOf}
+use Rattle.shade_parse_simple.proofs.Widens.{Keeps}
+use Rattle.shade_parse_simple.proofs.Openings.{opened_reads}
 use Rattle.shade_parse.proofs.MemberLaws.{member_of, member_reads, result_opens, result_reads}
 
 pub member_keeps : Keeps member_seen

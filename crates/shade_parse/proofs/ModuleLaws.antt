@@ -9,13 +9,14 @@ use Rattle.shade_ast.specs.Statements.{name, no_mark}
 use Rattle.shade_ast.specs.Declarations.{Declaration, DirectiveOf, diagnostic, requires_names, enables_names, rule, Module, whole}
 use Rattle.shade_ast.specs.Reads.{Near, Reads, Fails, rank, rank_of}
 use Rattle.shade_ast.specs.Places.{IsStop}
-use Rattle.shade_ast.proofs.Stages.{Stage, After, Ends, Closes, near_get, begin, change, closes_end}
+use Rattle.shade_ast.proofs.Stages.{Stage, Closes, near_get, begin, change, closes_end}
+use Rattle.shade_ast.specs.Chains.{After, Ends}
 use Rattle.shade_ast.proofs.Manys.{first_read}
 use Rattle.shade_ast.proofs.PlaceLaws.{stop_of_reads, stop_of_fails, none_of_all, none_past}
 use Rattle.shade_ast.proofs.Placed.{some_name}
 use Rattle.shade_parse.specs.Rests.{DirectiveAt}
 use Rattle.shade_parse.specs.Wholes.{BeginsDirective, DirectiveStands}
-use Rattle.shade_parse.proofs.Steps.{Stops, reached, nothing_read, fails_later, end_stops, ended}
+use Rattle.shade_parse_simple.proofs.Steps.{Stops, reached, nothing_read, fails_later, end_stops, ended}
 use Rattle.shade_parse.proofs.Runs.{Run, run_begin, run_stops, run_ends, run_more, run_fails}
 use Rattle.shade_parse.proofs.DirectiveLaws.{directive_there}
 use Rattle.shade_parse.proofs.DeclarationLaws.{decl_first, decl_no_directive}

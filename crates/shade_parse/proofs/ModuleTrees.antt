@@ -12,14 +12,15 @@ use Rattle.shade_ast.specs.Places.{IsOnly}
 use Rattle.shade_ast.proofs.Stages.{Stage}
 use Rattle.shade_ast.proofs.PlaceLaws.{only_all}
 use Rattle.shade_ast.proofs.ShapeLaws.{list_grows, length_grows, grows_here}
-use Rattle.shade_parse_expr.specs.declared.part.Fault.{Fault}
-use Rattle.shade_parse_expr.specs.declared.part.Fault.TheVariants as fault
+use Rattle.shade_cursor.specs.declared.part.Fault.{Fault}
+use Rattle.shade_cursor.specs.declared.part.Fault.TheVariants as fault
 use Rattle.shade_parse_expr.specs.Parts.{Faults}
 use Rattle.shade_parse_expr.proofs.Trees.{count_join}
-use Rattle.shade_parse.specs.declared.read.Read.{Read}
-use Rattle.shade_parse.specs.Readings.{ReadsOf, directive_seen, decl_seen}
+use Rattle.shade_parse_simple.specs.declared.read.Read.{Read}
+use Rattle.shade_parse_simple.specs.Readings.{ReadsOf}
+use Rattle.shade_parse.specs.Parts.{directive_seen, decl_seen}
 use Rattle.shade_parse.specs.Wholes.{DirectiveStands, Refused}
-use Rattle.shade_parse.proofs.Turns.{Turn, turn_first, turn_shapes, turn_more, map_one, most_one, joined_one}
+use Rattle.shade_parse_simple.proofs.Turns.{Turn, turn_first, turn_shapes, turn_more, map_one, most_one, joined_one}
 use Rattle.shade_parse.proofs.DirectiveTrees.{directive_keeps}
 use Rattle.shade_parse.proofs.DeclarationTrees.{decl_keeps}
 use Rattle.shade_parse.proofs.ModuleLaws.{tree, DirectiveRun, DeclRun, module_begin, directives_end, directives_more, directives_fail, module_ends, decls_more, module_stops, fails_stops}

@@ -1,16 +1,16 @@
 -- Braces and arms, token by token: the numbers stay small, and a walk goes on.
-use Rattle.std.proofs.Common.{◌≡◌, sym, ap, ◌∙◌, refl, subst, ℕ, ◌+◌, ◌<◌, ◌≤◌, inl, inr, List, [], ◌∷◌, length, arith}
+use Rattle.std.proofs.Common.{◌≡◌, sym, ap, ◌∙◌, subst, ℕ, ◌+◌, ◌<◌, ◌≤◌, inl, inr, List, [], ◌∷◌, length, arith}
 use Rattle.std.specs.List.{slice_index_or}
 use Rattle.shade_ast.specs.Lexemes.{Lexeme}
-use Rattle.shade_parse_expr.specs.declared.piece.Piece.{Piece}
-use Rattle.shade_parse_expr.specs.Shown.{lexeme, lexemes}
-use Rattle.shade_parse_expr.proofs.PassLaws.{Walked, walk_begins, walks_on, piece_stands, pieces_behind, none_passes}
+use Rattle.shade_cursor.specs.declared.piece.Piece.{Piece}
+use Rattle.shade_cursor.specs.Shown.{lexeme, lexemes}
+use Rattle.shade_cursor.proofs.PassLaws.{Walked, walk_begins, walks_on, piece_stands, pieces_behind, none_passes}
 use Rattle.shade_parse.specs.declared.nesting.Inner.{Inner}
 use Rattle.shade_parse.specs.declared.nesting.Past.{Past}
 use Rattle.shade_parse.specs.declared.nesting.Past.TheVariants as past
 use Rattle.shade_parse.specs.declared.nesting.Turn.{Turn}
 use Rattle.shade_parse.specs.declared.nesting.Turn.TheVariants as turn
-use Rattle.shade_parse.specs.Nesting.{Nested, turn_of, start, after, ended, armed, opened, closed_to, if_after, before_other, before, behind, over, Exceeds, IsNested, SmallInner, AllSmall, Small}
+use Rattle.shade_parse.specs.Nesting.{Nested, turn_of, start, after, closed_to, if_after, before_other, before, behind, over, Exceeds, IsNested, AllSmall, Small}
 
 pub small_begin : Small start
 small_begin = record { inner = record { depth = omega arith; start = omega arith; arms = omega arith }; outer = tt }

@@ -10,14 +10,16 @@ use Rattle.shade_ast.specs.Expressions.{TypeName, Expression}
 use Rattle.shade_ast.specs.Statements.{Name, Const, const}
 use Rattle.shade_ast.specs.Declarations.{MemberOf, Declaration, no_declaration, alias, constant, assertion, struct}
 use Rattle.shade_ast.specs.Reads.{Near, Reads, Fails, rank_of}
-use Rattle.shade_ast.proofs.Stages.{Stage, After, Ends, Closes, near_get, begin, change, stuck, closes_end, closes_after}
-use Rattle.shade_ast.proofs.Heads.{Headed, take_head}
-use Rattle.shade_ast.proofs.Placed.{Placed, placed_closes, name_begins, some_place}
+use Rattle.shade_ast.proofs.Stages.{Stage, Closes, near_get, begin, change, stuck, closes_end, closes_after}
+use Rattle.shade_ast.specs.Chains.{After, Ends, Headed, Placed}
+use Rattle.shade_ast.proofs.Heads.{take_head}
+use Rattle.shade_ast.proofs.Placed.{placed_closes, name_begins, some_place}
 use Rattle.shade_parse_expr.proofs.Chains.{then_reads, then_fails}
-use Rattle.shade_parse.specs.Rests.{Bound, bound, Enclosed, enclosed, AliasRest, StructRest, PlainAt}
+use Rattle.shade_parse_simple.specs.Rests.{Bound, bound}
+use Rattle.shade_parse.specs.Rests.{Enclosed, enclosed, AliasRest, StructRest, PlainAt}
 use Rattle.shade_parse.specs.Wholes.{BeginsDirective}
-use Rattle.shade_parse.proofs.Steps.{end_stops, token_stops, next, next_fails, token, no_token, ended}
-use Rattle.shade_parse.proofs.Openings.{type_closes}
+use Rattle.shade_parse_simple.proofs.Steps.{end_stops, token_stops, next, next_fails, token, no_token, ended}
+use Rattle.shade_parse_simple.proofs.Openings.{type_closes}
 
 -- a phrase and a `;`
 module _ {R S : Type 0} (B : S → List Lexeme → List Lexeme → Type 0) (build : S → R) where

@@ -4,8 +4,9 @@ use Rattle.std.proofs.lemmas.List.{append-nil}
 use Rattle.shade_ast.specs.Lexemes.{Lexeme}
 use Rattle.shade_ast.specs.Repeats.{Many, no_more, more}
 use Rattle.shade_ast.specs.Reads.{Near, Reads, Fails, rank}
-use Rattle.shade_ast.proofs.Stages.{Stage, After, Closes, change, phrase_or, phrase_or_fails}
-use Rattle.shade_parse.proofs.Steps.{Stops}
+use Rattle.shade_ast.proofs.Stages.{Stage, Closes, change, phrase_or, phrase_or_fails}
+use Rattle.shade_ast.specs.Chains.{After}
+use Rattle.shade_parse_simple.proofs.Steps.{Stops}
 
 module _ {R S : Type 0} (X : R → List Lexeme → List Lexeme → Type 0) (C : List R → S → List Lexeme → List Lexeme → Type 0) where
   -- what is left where these phrases stand so far

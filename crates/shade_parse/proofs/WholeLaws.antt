@@ -15,19 +15,17 @@ use Rattle.shade_ast.specs.Needs.{tree_needs}
 use Rattle.shade_ast.specs.Nodes.{tree_nodes, CountFrom}
 use Rattle.shade_ast.specs.Declarations.{Module}
 use Rattle.shade_ast.specs.Places.{Begins, IsStop, IsOnly}
-use Rattle.shade_parse_expr.specs.declared.part.Fault.{Fault}
-use Rattle.shade_parse_expr.specs.declared.part.Fault.TheVariants as fault
-use Rattle.shade_parse_expr.specs.declared.piece.Piece.{Piece}
-use Rattle.shade_parse_expr.specs.declared.fault.Refusal.{Refusal}
-use Rattle.shade_parse_expr.specs.declared.fault.Refusal.TheVariants as refusal
-use Rattle.shade_parse_expr.specs.declared.fault.SyntaxFault.{SyntaxFault}
-use Rattle.shade_parse_expr.specs.Answers.{fault_of}
-use Rattle.shade_parse_expr.specs.Shown.{lexeme, lexemes}
-use Rattle.shade_parse_expr.specs.Passes.{IsFirst}
-use Rattle.shade_parse_expr.specs.Depths.{IsDeep}
-use Rattle.shade_parse_expr.proofs.PassLaws.{take_range}
-use Rattle.shade_parse.specs.Nesting.{IsNested}
-use Rattle.shade_parse.specs.Answers.{PassesDepth, IsTree, IsUnexpected, IsTooDeep, IsFault}
+use Rattle.shade_cursor.specs.declared.part.Fault.{Fault}
+use Rattle.shade_cursor.specs.declared.part.Fault.TheVariants as fault
+use Rattle.shade_cursor.specs.declared.piece.Piece.{Piece}
+use Rattle.shade_cursor.specs.declared.fault.Refusal.{Refusal}
+use Rattle.shade_cursor.specs.declared.fault.Refusal.TheVariants as refusal
+use Rattle.shade_cursor.specs.declared.fault.SyntaxFault.{SyntaxFault}
+use Rattle.shade_cursor.specs.TokenPlaces.{fault_of}
+use Rattle.shade_cursor.specs.Shown.{lexeme, lexemes}
+use Rattle.shade_cursor.specs.Passes.{IsFirst}
+use Rattle.shade_cursor.proofs.PassLaws.{take_range}
+use Rattle.shade_parse.specs.Answers.{PassesDepth, IsTree, IsFault}
 use Rattle.shade_parse.specs.Wholes.{Refused}
 use Rattle.shade_parse.specs.Cuts.{IsWhole, IsRefused, cut_of, uncut_of, earlier_of}
 

@@ -1,5 +1,5 @@
 -- What is answered of the tokens of a text: the tree that they spell, or why they are refused.
-use Rattle.std.specs.Prelude.{◌≡◌, ℕ, ◌+◌, ◌<◌, ◌≤◌, ◌⊎◌, List, [], length, slice_range}
+use Rattle.std.specs.Prelude.{ℕ, ◌+◌, ◌<◌, ◌≤◌, ◌⊎◌, List, [], length, slice_range}
 use Rattle.shade_lex.specs.declared.token.Token.{Token}
 use Rattle.shade_ast.specs.declared.tree.Tree.{Tree}
 use Rattle.shade_ast.specs.Lexemes.{Lexeme}
@@ -9,11 +9,11 @@ use Rattle.shade_ast.specs.Needs.{tree_needs}
 use Rattle.shade_ast.specs.Nodes.{tree_nodes, CountFrom}
 use Rattle.shade_ast.specs.Declarations.{Module}
 use Rattle.shade_ast.specs.Places.{Begins, IsStop, IsOnly}
-use Rattle.shade_parse_expr.specs.declared.fault.SyntaxFault.{SyntaxFault}
-use Rattle.shade_parse_expr.specs.declared.fault.SyntaxFault.TheVariants as fault
-use Rattle.shade_parse_expr.specs.Passes.{IsFirst}
-use Rattle.shade_parse_expr.specs.Depths.{IsDeep}
-use Rattle.shade_parse_expr.specs.Answers.{IsPlaceOf}
+use Rattle.shade_cursor.specs.declared.fault.SyntaxFault.{SyntaxFault}
+use Rattle.shade_cursor.specs.declared.fault.SyntaxFault.TheVariants as fault
+use Rattle.shade_cursor.specs.Passes.{IsFirst}
+use Rattle.shade_cursor.specs.Depths.{IsDeep}
+use Rattle.shade_cursor.specs.TokenPlaces.{IsPlaceOf}
 use Rattle.shade_parse.specs.Nesting.{IsNested}
 
 -- a token passes a depth: that of expressions, the chain, the braces or the arms

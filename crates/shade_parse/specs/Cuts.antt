@@ -1,5 +1,5 @@
 -- What is answered where depths are not counted, and what an answer of some tokens says of more.
-use Rattle.std.specs.Prelude.{ℕ, ◌≤◌, leb, cond, List, [], length, Option, None, Some, Result, Ok, Err}
+use Rattle.std.specs.Prelude.{ℕ, ◌≤◌, leb, cond, List, length, Option, None, Some, Result, Ok, Err}
 use Rattle.shade_ast.specs.declared.tree.Tree.{Tree}
 use Rattle.shade_ast.specs.Lexemes.{Lexeme}
 use Rattle.shade_ast.specs.Shaped.{tree_shape}
@@ -7,10 +7,10 @@ use Rattle.shade_ast.specs.Needs.{tree_needs}
 use Rattle.shade_ast.specs.Nodes.{tree_nodes, CountFrom}
 use Rattle.shade_ast.specs.Declarations.{Module}
 use Rattle.shade_ast.specs.Places.{IsOnly}
-use Rattle.shade_parse_expr.specs.declared.part.Fault.{Fault}
-use Rattle.shade_parse_expr.specs.declared.part.Fault.TheVariants as fault
-use Rattle.shade_parse_expr.specs.declared.fault.Refusal.{Refusal}
-use Rattle.shade_parse_expr.specs.declared.fault.Refusal.TheVariants as refusal
+use Rattle.shade_cursor.specs.declared.part.Fault.{Fault}
+use Rattle.shade_cursor.specs.declared.part.Fault.TheVariants as fault
+use Rattle.shade_cursor.specs.declared.fault.Refusal.{Refusal}
+use Rattle.shade_cursor.specs.declared.fault.Refusal.TheVariants as refusal
 use Rattle.shade_parse.specs.Answers.{IsUnexpected, IsTooDeep}
 
 -- a tree of all tokens

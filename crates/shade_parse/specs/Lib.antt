@@ -1,13 +1,7 @@
-pub mod Readings
 pub mod Rests
 pub mod Nesting
 pub mod Answers
 pub mod Cuts
-pub mod Maybes
-pub mod Updates
-pub mod Follows
-pub mod StatementParts
-pub mod Trees
 pub mod Parts
 pub mod Wholes
 pub mod Once

@@ -4,7 +4,7 @@ use Rattle.std.specs.Prelude.{ℕ, ◌+◌, ◌<◌, ◌⊎◌, List, [], ◌∷
 use Rattle.shade_ast.specs.declared.lexeme.Keyword.TheVariants as word
 use Rattle.shade_ast.specs.declared.lexeme.Sign.TheVariants as sign
 use Rattle.shade_ast.specs.Lexemes.{Lexeme, Key, Mark}
-use Rattle.shade_parse_expr.specs.Passes.{Passes}
+use Rattle.shade_cursor.specs.Passes.{Passes}
 use Rattle.shade_parse.specs.declared.nesting.Inner.{Inner}
 use Rattle.shade_parse.specs.declared.nesting.Past.{Past}
 use Rattle.shade_parse.specs.declared.nesting.Past.TheVariants as past

@@ -1,29 +1,17 @@
 -- What may still stand behind the first words of a phrase.
-use Rattle.std.specs.Prelude.{◌≡◌, Bool, List, ◌∷◌, Option}
+use Rattle.std.specs.Prelude.{Bool, List, ◌∷◌, Option}
 use Rattle.shade_ast.specs.declared.lexeme.Sign.{Sign}
 use Rattle.shade_ast.specs.declared.lexeme.Sign.TheVariants as sign
 use Rattle.shade_ast.specs.declared.lexeme.Keyword.TheVariants as word
-use Rattle.shade_ast.specs.Lexemes.{Lexeme, Word, Key, Mark}
-use Rattle.shade_ast.specs.Shapes.{NameShape, BindingShape, DirectiveShape, diagnostic_directive, requires_directive, enable_directive, ExprShape, MemberShape, ResultShape, BlockShape, DeclShape, empty_decl, alias_decl, const_decl, assert_decl, struct_decl}
+use Rattle.shade_ast.specs.Lexemes.{Lexeme, Key, Mark}
+use Rattle.shade_ast.specs.Shapes.{NameShape, DirectiveShape, diagnostic_directive, requires_directive, enable_directive, ExprShape, MemberShape, ResultShape, BlockShape, DeclShape, empty_decl, alias_decl, const_decl, assert_decl, struct_decl}
 use Rattle.shade_ast.specs.Repeats.{Maybe, Listed, MaybeListed}
-use Rattle.shade_ast.proofs.Stages.{After, Ends}
-use Rattle.shade_ast.proofs.Placed.{Placed}
+use Rattle.shade_ast.specs.Chains.{After, Ends, Placed}
 use Rattle.shade_ast.specs.Declarations.{RuleOf, MemberOf, ResultOf}
 use Rattle.shade_ast.specs.Expressions.{TypeName, Expression}
-use Rattle.shade_ast.specs.Statements.{Name, OfType, HasValue, CommaName, MaybeMark, Block}
+use Rattle.shade_ast.specs.Statements.{Name, OfType, HasValue, Block}
 use Rattle.shade_base.specs.declared.place.Place.{Place}
-
--- a `const` or a `let` behind its keyword: NAME (':' type)? '=' expr
-pub data Bound (keyword : Place) : BindingShape → List Lexeme → List Lexeme → Type 0 where
-  bound : (b : BindingShape) {ts us vs : List Lexeme} → b.place ≡ keyword → Maybe OfType b.ty ts us → HasValue b.value us vs → Bound keyword b (Word b.name.text b.name.place ∷ ts) vs
-
--- ','? and a mark that closes, with whether the comma stands there
-pub data Ending (closer : Sign) : Bool → List Lexeme → List Lexeme → Type 0 where
-  ending : {trailing : Bool} (p : Place) {ts us : List Lexeme} → MaybeMark sign.Comma trailing ts (Mark closer p ∷ us) → Ending closer trailing ts us
-
--- the template list of a `var` behind its first name: (',' NAME)? ','? '>'
-pub data SpaceEnd : Option NameShape × Bool → List Lexeme → List Lexeme → Type 0 where
-  space_end : {access : Option NameShape} {trailing : Bool} {ts us vs : List Lexeme} → Maybe CommaName access ts us → Ending sign.CloseTemplate trailing us vs → SpaceEnd (access, trailing) ts vs
+use Rattle.shade_parse_simple.specs.Rests.{Bound, Ending}
 
 -- a list and the mark that closes it, with the place of that
 pub data Enclosed {R : Type 0} (L : List R × Bool → List Lexeme → List Lexeme → Type 0) (closer : Sign) : (List R × Bool) × Place → List Lexeme → List Lexeme → Type 0 where

@@ -5,8 +5,8 @@ use Rattle.shade_ast.specs.Lexemes.{Lexeme, Key}
 use Rattle.shade_ast.specs.Shapes.{TreeShape}
 use Rattle.shade_ast.specs.Declarations.{Module}
 use Rattle.shade_ast.specs.Places.{IsStop}
-use Rattle.shade_parse_expr.specs.declared.part.Fault.{Fault}
-use Rattle.shade_parse_expr.specs.declared.part.Fault.TheVariants as fault
+use Rattle.shade_cursor.specs.declared.part.Fault.{Fault}
+use Rattle.shade_cursor.specs.declared.part.Fault.TheVariants as fault
 
 -- a token that a directive begins with
 abbrev pub BeginsDirective : Lexeme → Type 0

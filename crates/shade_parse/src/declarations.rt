@@ -3,26 +3,26 @@
 ghost use Rattle.std.specs.Prelude.{◌≡◌, ◌+◌, ◌<◌, ◌≤◌, ◌^◌, length, IfOk, MatchResult};
 ghost use Rattle.shade_ast.specs.Names.{Grows};
 ghost use Rattle.shade_ast.specs.Declarations.{Declaration};
-ghost use Rattle.shade_ast.proofs.Heads.{Headed};
-ghost use Rattle.shade_parse.specs.Readings.{decl_kind_seen, decl_seen, first_of, ReadsOf};
+ghost use Rattle.shade_ast.specs.Chains.{Headed};
+ghost use Rattle.shade_parse.specs.Parts.{decl_kind_seen, decl_seen, fn_seen, override_seen};
+ghost use Rattle.shade_parse_simple.specs.Readings.{first_of, ReadsOf};
 ghost use Rattle.shade_parse.specs.Rests.{AliasRest, AssertRest, ConstRest, FnRest, OverrideRest, PlainAt, StructRest};
-ghost use Rattle.shade_parse.specs.Parts.{fn_seen, override_seen};
 ghost use Rattle.shade_parse_expr.specs.Parts.{Faults};
-ghost use Rattle.shade_parse_expr.specs.Shown.{lexemes};
+ghost use Rattle.shade_cursor.specs.Shown.{lexemes};
 
-use crate::attributes::attributes;
-use crate::bindings::{bound, maybe_type, maybe_value, var};
-use crate::members::{first_place, maybe_result, members, parameters};
-use crate::read::Read;
-use crate::statements::block;
-use crate::tokens::name;
+use crate::members::{maybe_result, members, parameters};
 use shade_ast::{
     Attr, Block, Decl, DeclKind, Expr, FnResult, Keyword, Member, Named, Names, Sign, Var,
 };
 use shade_base::Place;
+use shade_cursor::part::Fault;
+use shade_cursor::piece::{Piece, key_at, mark_at};
 use shade_parse_expr::parse::{expression, type_name};
-use shade_parse_expr::part::Fault;
-use shade_parse_expr::piece::{Piece, key_at, mark_at};
+use shade_parse_simple::attributes::{attributes, first_place};
+use shade_parse_simple::bindings::{bound, maybe_type, maybe_value, var};
+use shade_parse_simple::read::{Read, refuse};
+use shade_parse_simple::tokens::name;
+use shade_parse_stmt::statements::block;
 use sqlite_items::Items;
 use std::alloc::Global;
 
@@ -74,7 +74,7 @@ pub fn declaration(
     if let Some(_) = key_at(pieces, attrs.end, Keyword::Var) {
         let variable = var(alloc, pieces, names, attrs.end, attrs.node)?;
         let Some(_) = mark_at(pieces, variable.end, Sign::Semicolon) else {
-            return Err(Fault::Unexpected(variable.end));
+            return refuse(Fault::Unexpected(variable.end), variable);
         };
         return Ok(var_decl(attrs.tree, variable));
     }
@@ -108,7 +108,10 @@ fn function(
     };
     let list = parameters(alloc, pieces, names, name.end + 1, name.node)?;
     let result = maybe_result(alloc, pieces, names, list.end, list.node)?;
-    let body = block(alloc, pieces, names, result.end, result.node)?;
+    let body = match block(alloc, pieces, names, result.end, result.node) {
+        Ok(body) => body,
+        Err(fault) => return refuse(fault, (list, result)),
+    };
     let params = list.tree;
     Ok(Read {
         tree: FnBody {
@@ -143,9 +146,12 @@ fn overridable(
 {
     let name = name(pieces, names, from, node)?;
     let ty = maybe_type(alloc, pieces, names, name.end, name.node)?;
-    let value = maybe_value(alloc, pieces, names, ty.end, ty.node)?;
+    let value = match maybe_value(alloc, pieces, names, ty.end, ty.node) {
+        Ok(value) => value,
+        Err(fault) => return refuse(fault, ty),
+    };
     let Some(_) = mark_at(pieces, value.end, Sign::Semicolon) else {
-        return Err(Fault::Unexpected(value.end));
+        return refuse(Fault::Unexpected(value.end), (ty, value));
     };
     Ok(Read {
         tree: OverrideBody {
@@ -284,7 +290,7 @@ fn alias(
     };
     let ty = type_name(alloc, pieces, names, name.end + 1, name.node)?;
     let Some(_) = mark_at(pieces, ty.end, Sign::Semicolon) else {
-        return Err(Fault::Unexpected(ty.end));
+        return refuse(Fault::Unexpected(ty.end), ty);
     };
     Ok(Read {
         tree: DeclKind::Alias {
@@ -317,7 +323,7 @@ fn constant(
 {
     let binding = bound(alloc, pieces, names, from, node, place)?;
     let Some(_) = mark_at(pieces, binding.end, Sign::Semicolon) else {
-        return Err(Fault::Unexpected(binding.end));
+        return refuse(Fault::Unexpected(binding.end), binding);
     };
     Ok(Read {
         tree: DeclKind::Const(binding.tree),
@@ -347,7 +353,7 @@ fn assertion(
 {
     let condition = expression(alloc, pieces, names, from, node)?;
     let Some(_) = mark_at(pieces, condition.end, Sign::Semicolon) else {
-        return Err(Fault::Unexpected(condition.end));
+        return refuse(Fault::Unexpected(condition.end), condition);
     };
     Ok(Read {
         tree: DeclKind::ConstAssert(condition.expr),

@@ -3,18 +3,19 @@
 ghost use Rattle.std.specs.Prelude.{◌≡◌, ◌+◌, ◌<◌, ◌≤◌, ◌^◌, length, IfOk, MatchResult};
 ghost use Rattle.shade_ast.specs.Names.{Grows};
 ghost use Rattle.shade_ast.specs.Declarations.{DirectiveOf, RuleOf};
-ghost use Rattle.shade_parse.specs.Readings.{directive_kind_seen, directive_seen, rule_seen, ReadsOf};
+ghost use Rattle.shade_parse.specs.Parts.{directive_kind_seen, directive_seen, rule_seen};
+ghost use Rattle.shade_parse_simple.specs.Readings.{ReadsOf};
 ghost use Rattle.shade_parse.specs.Rests.{DiagnosticRest};
 ghost use Rattle.shade_parse_expr.specs.Parts.{Faults};
-ghost use Rattle.shade_parse_expr.specs.Shown.{lexemes};
+ghost use Rattle.shade_cursor.specs.Shown.{lexemes};
 
 use crate::members::name_list;
-use crate::read::Read;
-use crate::tokens::{closed, name};
 use shade_ast::{Directive, DirectiveKind, Keyword, Names, Rule, Sign};
 use shade_base::Place;
-use shade_parse_expr::part::Fault;
-use shade_parse_expr::piece::{Piece, key_at, mark_at};
+use shade_cursor::part::Fault;
+use shade_cursor::piece::{Piece, key_at, mark_at};
+use shade_parse_simple::read::Read;
+use shade_parse_simple::tokens::{closed, name};
 use std::alloc::Global;
 
 /// A directive.

@@ -7,24 +7,33 @@ ghost use Rattle.shade_ast.specs.Names.{Grows};
 ghost use Rattle.shade_ast.specs.Repeats.{Listed, MaybeListed};
 ghost use Rattle.shade_ast.specs.Statements.{Name};
 ghost use Rattle.shade_ast.specs.Declarations.{MemberOf, ResultOf};
-ghost use Rattle.shade_parse.specs.Maybes.{MaybeFaults, MaybeOf};
-ghost use Rattle.shade_parse.specs.Readings.{enclosed_seen, first_of, member_seen, named_seen, result_seen, ReadsOf};
+ghost use Rattle.shade_parse_simple.specs.Maybes.{MaybeFaults, MaybeOf};
+ghost use Rattle.shade_parse.specs.Parts.{enclosed_seen, member_seen, result_seen};
+ghost use Rattle.shade_parse_simple.specs.Readings.{named_seen, ReadsOf};
 ghost use Rattle.shade_parse.specs.Rests.{Enclosed};
 ghost use Rattle.shade_parse_expr.specs.Parts.{Faults};
-ghost use Rattle.shade_parse_expr.specs.Shown.{lexemes};
+ghost use Rattle.shade_cursor.specs.Shown.{lexemes};
 
-use crate::attributes::attributes;
-use crate::bindings::of_type;
-use crate::items::{ItemList, push};
-use crate::read::Read;
-use crate::tokens::name;
-use shade_ast::{Attr, FnResult, Member, Named, Names, Sign};
+use shade_ast::{FnResult, Member, Named, Names, Sign};
 use shade_base::Place;
+use shade_cursor::part::Fault;
+use shade_cursor::piece::{Piece, mark_at};
 use shade_parse_expr::parse::type_name;
-use shade_parse_expr::part::Fault;
-use shade_parse_expr::piece::{Piece, mark_at};
+use shade_parse_simple::attributes::{attributes, first_place};
+use shade_parse_simple::bindings::of_type;
+use shade_parse_simple::items::push;
+use shade_parse_simple::read::Read;
+use shade_parse_simple::tokens::name;
 use sqlite_items::Items;
 use std::alloc::Global;
+
+/// Items with commas between them, whether a comma stands behind the last, and the place of the mark that closes them.
+#[derive(Drop)]
+pub struct ItemList<T> {
+    pub items: Items<T>,
+    pub trailing: bool,
+    pub close: Place,
+}
 
 /// Names with commas between them, and a `;`.
 pub fn name_list(
@@ -83,16 +92,6 @@ fn closed_list<T>(
         },
         end: at + 1,
         node,
-    }
-}
-
-/// The place of the first token of what may begin with attributes.
-pub fn first_place(attrs: &Items<Attr>, place: Place) -> Place
-    ensures { result ≡ first_of attrs.now place }
-{
-    match attrs.as_slice() {
-        [first, ..] => first.place,
-        [] => place,
     }
 }
 

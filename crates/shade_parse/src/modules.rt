@@ -7,14 +7,14 @@ ghost use Rattle.shade_ast.specs.Nodes.{tree_nodes, CountFrom};
 ghost use Rattle.shade_ast.specs.Places.{IsOnly};
 ghost use Rattle.shade_ast.specs.Shaped.{tree_shape};
 ghost use Rattle.shade_parse.specs.Wholes.{DirectiveStands, Refused};
-ghost use Rattle.shade_parse_expr.specs.Shown.{lexemes};
+ghost use Rattle.shade_cursor.specs.Shown.{lexemes};
 
 use crate::declarations::declaration;
 use crate::directives::directive;
-use crate::items::push;
 use shade_ast::{Keyword, Names, Tree};
-use shade_parse_expr::part::Fault;
-use shade_parse_expr::piece::{Piece, key_at};
+use shade_cursor::part::Fault;
+use shade_cursor::piece::{Piece, key_at};
+use shade_parse_simple::items::push;
 use sqlite_items::Items;
 use std::alloc::Global;
 

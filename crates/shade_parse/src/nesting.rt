@@ -2,11 +2,11 @@
 
 ghost use Rattle.std.specs.Prelude.{◌≡◌, ℕ, ◌<◌, IfOk, IfSome, MatchOption, OnOk, length};
 ghost use Rattle.shade_parse.specs.Nesting.{after, armed, before, before_other, behind, closed_to, ended, if_after, opened, start, turn_of as turn_of_lexeme, IsNested, Small};
-ghost use Rattle.shade_parse_expr.specs.Passes.{IsFirst};
-ghost use Rattle.shade_parse_expr.specs.Shown.{lexeme, lexemes};
+ghost use Rattle.shade_cursor.specs.Passes.{IsFirst};
+ghost use Rattle.shade_cursor.specs.Shown.{lexeme, lexemes};
 
 use shade_ast::{Keyword, Sign};
-use shade_parse_expr::piece::Piece;
+use shade_cursor::piece::Piece;
 use std::alloc::{AllocError, Global};
 use std::marker::Model;
 

@@ -4,19 +4,19 @@ ghost use Rattle.std.specs.Prelude.{◌≡◌, ℕ, ◌<◌, ◌≤◌, length, 
 ghost use Rattle.shade_ast.specs.Lexemes.{lexemes as lexemes_of};
 ghost use Rattle.shade_parse.specs.Answers.{IsFault, IsTree, PassesDepth};
 ghost use Rattle.shade_parse.specs.Cuts.{cut_of, earlier_of, uncut_of, IsRefused};
-ghost use Rattle.shade_parse_expr.specs.Passes.{IsFirst};
-ghost use Rattle.shade_parse_expr.specs.Shown.{lexemes};
+ghost use Rattle.shade_cursor.specs.Passes.{IsFirst};
+ghost use Rattle.shade_cursor.specs.Shown.{lexemes};
 
 use crate::modules;
 use crate::nesting::first_nested;
 use shade_ast::Tree;
+use shade_cursor::depths::first_deep;
+use shade_cursor::fault::{Refusal, fault_of};
+use shade_cursor::part::Fault;
+use shade_cursor::piece::Piece;
+use shade_cursor::pieces::pieces_of;
 use shade_lex::{TemplatePairs, Tokens};
 use shade_parse_expr::SyntaxFault;
-use shade_parse_expr::depths::first_deep;
-use shade_parse_expr::fault::{Refusal, fault_of};
-use shade_parse_expr::part::Fault;
-use shade_parse_expr::piece::Piece;
-use shade_parse_expr::pieces::pieces_of;
 use std::alloc::{AllocError, Global};
 
 /// The tree that the tokens of a text spell, with its nodes numbered in postorder from 0.

@@ -11,22 +11,25 @@ use Rattle.shade_ast.specs.Nodes.{CountFrom}
 use Rattle.shade_ast.specs.Places.{Begins, IsStop, IsOnly}
 use Rattle.shade_ast.proofs.PlaceLaws.{stop_of_reads, only_of_reads, stop_of_fails, none_of_fails}
 use Rattle.shade_parse_expr.specs.declared.goal.Goal.{Goal}
-use Rattle.shade_parse_expr.specs.declared.part.Part.{Part}
-use Rattle.shade_parse_expr.specs.declared.piece.Piece.{Piece}
-use Rattle.shade_parse_expr.specs.Shown.{lexeme, lexemes}
-use Rattle.shade_parse_expr.specs.declared.part.Fault.{Fault}
-use Rattle.shade_parse_expr.specs.declared.part.Fault.TheVariants as fault
-use Rattle.shade_parse_expr.specs.declared.fault.Refusal.{Refusal}
-use Rattle.shade_parse_expr.specs.declared.fault.Refusal.TheVariants as refusal
-use Rattle.shade_parse_expr.specs.declared.fault.SyntaxFault.{SyntaxFault}
+use Rattle.shade_cursor.specs.declared.part.Part.{Part}
+use Rattle.shade_cursor.specs.declared.piece.Piece.{Piece}
+use Rattle.shade_cursor.specs.Shown.{lexeme, lexemes}
+use Rattle.shade_cursor.specs.declared.part.Fault.{Fault}
+use Rattle.shade_cursor.specs.declared.part.Fault.TheVariants as fault
+use Rattle.shade_cursor.specs.declared.fault.Refusal.{Refusal}
+use Rattle.shade_cursor.specs.declared.fault.Refusal.TheVariants as refusal
+use Rattle.shade_cursor.specs.declared.fault.SyntaxFault.{SyntaxFault}
 use Rattle.shade_parse_expr.specs.Parts.{ReadsTree, Faults}
-use Rattle.shade_parse_expr.specs.Passes.{IsFirst}
-use Rattle.shade_parse_expr.specs.Depths.{IsDeep}
-use Rattle.shade_parse_expr.specs.Answers.{production, AreFew, IsShallow, IsPhrase, IsTooDeep, IsRefused, IsFault, fault_of}
+use Rattle.shade_cursor.specs.Passes.{IsFirst}
+use Rattle.shade_cursor.specs.Depths.{IsDeep}
+use Rattle.shade_parse_expr.specs.Answers.{production, AreFew, IsShallow, IsPhrase, IsTooDeep, IsRefused, IsFault}
+use Rattle.shade_cursor.specs.TokenPlaces.{fault_of}
 use Rattle.shade_parse_expr.specs.Cuts.{IsRead, IsUnread, cut_of, uncut_of}
 
 -- what a function of the parser answers, without its rank
-pub without_rank : (goal : Goal) (n : ℕ) (small : n < 10) (tokens : List Lexeme) (old new : List (List ℕ)) (from node : ℕ) (r : Result Part Fault) → MatchResult r (λ p. ReadsTree (production goal) n tokens new [] from node p) (λ f. Faults (production goal) n tokens old new from f) → IfOk r (λ p. p.node + from ≤ node + p.end) → IfOk r (λ p. length new + from ≤ length old + p.end) → MatchResult r (IsRead goal tokens old new from node) (IsUnread goal tokens old new from)
+pub without_rank : (goal : Goal) (n : ℕ) (small : n < 10) (tokens : List Lexeme) (old new : List (List ℕ)) (from node : ℕ) (r : Result Part Fault) →
+    MatchResult r (λ p. ReadsTree (production goal) n tokens new [] from node p) (λ f. Faults (production goal) n tokens old new from f) → IfOk r (λ p. p.node + from ≤ node + p.end) →
+    IfOk r (λ p. length new + from ≤ length old + p.end) → MatchResult r (IsRead goal tokens old new from node) (IsUnread goal tokens old new from)
 without_rank goal n small tokens old new from node (Ok p) x few_nodes few = record {
   stop = stop_of_reads (production goal) n small tokens from p.end (expr_shape new p.expr) x.reads;
   only = only_of_reads (production goal) n small tokens from p.end (expr_shape new p.expr) x.reads;
@@ -43,7 +46,9 @@ without_rank goal n small tokens old new from node (Err (fault.Unexpected at)) x
 without_rank goal n small tokens old new from node (Err fault.NoMemory) x few_nodes few = x
 
 -- no token passes a depth
-pub uncut_answer : (goal : Goal) (tokens : List Lexeme) (old new : List (List ℕ)) (from node : ℕ) (answer : Result Part Fault) (r : Result Part Refusal) → ((k : ℕ) → IsDeep tokens from k → ⊥) → r ≡ uncut_of answer → MatchResult answer (IsRead goal tokens old new from node) (IsUnread goal tokens old new from) → MatchResult r (λ p. IsPhrase goal tokens old new from node p.expr p.end p.node) (IsRefused goal tokens old new from)
+pub uncut_answer : (goal : Goal) (tokens : List Lexeme) (old new : List (List ℕ)) (from node : ℕ) (answer : Result Part Fault) (r : Result Part Refusal) → ((k : ℕ) → IsDeep tokens from k → ⊥) →
+    r ≡ uncut_of answer → MatchResult answer (IsRead goal tokens old new from node) (IsUnread goal tokens old new from) →
+    MatchResult r (λ p. IsPhrase goal tokens old new from node p.expr p.end p.node) (IsRefused goal tokens old new from)
 uncut_answer goal tokens old new from node answer r never is x = subst (λ v. MatchResult v (λ p. IsPhrase goal tokens old new from node p.expr p.end p.node) (IsRefused goal tokens old new from)) (sym is) (by answer x)
   where
     by : (a : Result Part Fault) → MatchResult a (IsRead goal tokens old new from node) (IsUnread goal tokens old new from) → MatchResult (uncut_of a) (λ p. IsPhrase goal tokens old new from node p.expr p.end p.node) (IsRefused goal tokens old new from)
@@ -94,7 +99,9 @@ module _ (goal : Goal) (tokens : List Lexeme) (old new : List (List ℕ)) (from 
     few = omega (arith, s.high, long, few);
   }
 
-  pub cut_answer : (answer : Result Part Fault) (r : Result Part Refusal) → r ≡ cut_of answer deep → MatchResult answer (IsRead goal (take (deep + 1) tokens) old new from node) (IsUnread goal (take (deep + 1) tokens) old new from) → MatchResult r (λ p. IsPhrase goal tokens old new from node p.expr p.end p.node) (IsRefused goal tokens old new from)
+  pub cut_answer : (answer : Result Part Fault) (r : Result Part Refusal) → r ≡ cut_of answer deep →
+      MatchResult answer (IsRead goal (take (deep + 1) tokens) old new from node) (IsUnread goal (take (deep + 1) tokens) old new from) →
+      MatchResult r (λ p. IsPhrase goal tokens old new from node p.expr p.end p.node) (IsRefused goal tokens old new from)
   cut_answer answer r is x = subst (λ v. MatchResult v (λ p. IsPhrase goal tokens old new from node p.expr p.end p.node) (IsRefused goal tokens old new from)) (sym is) (by answer x)
     where
       by : (a : Result Part Fault) → MatchResult a (IsRead goal (take (deep + 1) tokens) old new from node) (IsUnread goal (take (deep + 1) tokens) old new from) → MatchResult (cut_of a deep) (λ p. IsPhrase goal tokens old new from node p.expr p.end p.node) (IsRefused goal tokens old new from)
@@ -147,10 +154,14 @@ front_lexemes (suc n) (p ∷ pieces) = ap (λ ls. lexeme p ∷ ls) (front_lexeme
 
 -- the answers of the pieces of a text, by what the scan tells
 module _ (goal : Goal) (pieces : List Piece) (old new : List (List ℕ)) (from node : ℕ) (scanned : Option ℕ) (s : Scanned (lexemes pieces) from scanned) where
-  pub all_pieces : (answer : Result Part Fault) (r : Result Part Refusal) → scanned ≡ None → r ≡ uncut_of answer → MatchResult answer (IsRead goal (lexemes pieces) old new from node) (IsUnread goal (lexemes pieces) old new from) → MatchResult r (λ p. IsPhrase goal (lexemes pieces) old new from node p.expr p.end p.node) (IsRefused goal (lexemes pieces) old new from)
+  pub all_pieces : (answer : Result Part Fault) (r : Result Part Refusal) → scanned ≡ None → r ≡ uncut_of answer →
+      MatchResult answer (IsRead goal (lexemes pieces) old new from node) (IsUnread goal (lexemes pieces) old new from) →
+      MatchResult r (λ p. IsPhrase goal (lexemes pieces) old new from node p.expr p.end p.node) (IsRefused goal (lexemes pieces) old new from)
   all_pieces answer r none is x = uncut_answer goal (lexemes pieces) old new from node answer r (subst (Scanned (lexemes pieces) from) none s) is x
 
-  pub front_pieces : (deep : ℕ) (answer : Result Part Fault) (r : Result Part Refusal) → scanned ≡ Some deep → r ≡ cut_of answer deep → MatchResult answer (IsRead goal (lexemes (take (deep + 1) pieces)) old new from node) (IsUnread goal (lexemes (take (deep + 1) pieces)) old new from) → MatchResult r (λ p. IsPhrase goal (lexemes pieces) old new from node p.expr p.end p.node) (IsRefused goal (lexemes pieces) old new from)
+  pub front_pieces : (deep : ℕ) (answer : Result Part Fault) (r : Result Part Refusal) → scanned ≡ Some deep → r ≡ cut_of answer deep →
+      MatchResult answer (IsRead goal (lexemes (take (deep + 1) pieces)) old new from node) (IsUnread goal (lexemes (take (deep + 1) pieces)) old new from) →
+      MatchResult r (λ p. IsPhrase goal (lexemes pieces) old new from node p.expr p.end p.node) (IsRefused goal (lexemes pieces) old new from)
   front_pieces deep answer r some is x =
       let f : IsFirst (IsDeep (lexemes pieces) from) deep = subst (Scanned (lexemes pieces) from) some s in
       cut_answer goal (lexemes pieces) old new from node deep f.passes.low (slice_get_within (lexemes pieces) deep f.passes.token f.passes.stands) f.passes (λ k above below. f.first k below) answer r is

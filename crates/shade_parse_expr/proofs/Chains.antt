@@ -2,8 +2,9 @@
 use Rattle.std.proofs.Common.{◌≡◌, sym, ap, ◌∙◌, subst, ℕ, ◌+◌, ◌<◌, ◌≤◌, List, ◌++◌, drop, arith, append_assoc, Some, slice_get}
 use Rattle.shade_ast.specs.Lexemes.{Lexeme}
 use Rattle.shade_ast.specs.Reads.{Near, Reads, Fails, rank, rank_of}
-use Rattle.shade_ast.proofs.Stages.{Stage, After, near_append, change, phrase, phrase_fails}
-use Rattle.shade_ast.proofs.Tails.{Tail, On, takes, tail_stops, tail_closes}
+use Rattle.shade_ast.proofs.Stages.{Stage, near_append, change, phrase, phrase_fails}
+use Rattle.shade_ast.specs.Chains.{After, Tail}
+use Rattle.shade_ast.proofs.Tails.{On, takes, tail_stops, tail_closes}
 
 module _ {R : Type 0} (G C : R → List Lexeme → List Lexeme → Type 0) (n : ℕ) (tokens : List Lexeme) (from at to : ℕ) (s : Stage G n tokens from at C) where
   pub then_reads : (r : R) → Reads C n tokens at r to → Reads G n tokens from r to
@@ -72,7 +73,9 @@ module _ {R : Type 0} (G C B : R → List Lexeme → List Lexeme → Type 0) (n 
   }
 
 -- a phrase that is one of another production fails
-pub fails_as : {R S : Type 0} (G : R → List Lexeme → List Lexeme → Type 0) (n : ℕ) (tokens : List Lexeme) (from : ℕ) (B : S → List Lexeme → List Lexeme → Type 0) (m : ℕ) → m ≤ n → (f : S → R) → ((b : S) (ts w : List Lexeme) → B b ts w → G (f b) ts w) → ((r : R) (ts w : List Lexeme) → G r ts w → n < rank w → (b : S) × (r ≡ f b) × B b ts w) → (to : ℕ) → Fails B m tokens from to → Fails G n tokens from to
+pub fails_as : {R S : Type 0} (G : R → List Lexeme → List Lexeme → Type 0) (n : ℕ) (tokens : List Lexeme) (from : ℕ) (B : S → List Lexeme → List Lexeme → Type 0) (m : ℕ) → m ≤ n → (f : S → R) →
+    ((b : S) (ts w : List Lexeme) → B b ts w → G (f b) ts w) → ((r : R) (ts w : List Lexeme) → G r ts w → n < rank w → (b : S) × (r ≡ f b) × B b ts w) → (to : ℕ) → Fails B m tokens from to →
+    Fails G n tokens from to
 fails_as G n tokens from B m le f there here to x = record {
   low = x.low;
   high = x.high;

@@ -6,13 +6,14 @@ use Rattle.shade_ast.specs.Lexemes.{Lexeme, Mark}
 use Rattle.shade_ast.specs.Shapes.{ExprShape, infixed, place_of}
 use Rattle.shade_ast.specs.Expressions.{Expression, Relational}
 use Rattle.shade_ast.specs.Reads.{Near, Reads, Fails, rank, rank_of}
-use Rattle.shade_ast.proofs.Stages.{Stage, After, Closes, near_get, begin, change, phrase, phrase_fails, finish, reads_as}
-use Rattle.shade_ast.proofs.Tails.{done, Infix, unroll, tail_stops, tail_ends}
-use Rattle.shade_parse_expr.specs.declared.operators.Joint.{Joint}
-use Rattle.shade_parse_expr.specs.declared.operators.Joint.TheVariants as joint
-use Rattle.shade_parse_expr.specs.Operators.{found, joint_of, joint_sign, joint_infix, Joins}
+use Rattle.shade_ast.proofs.Stages.{Stage, Closes, near_get, begin, change, phrase, phrase_fails, finish, reads_as}
+use Rattle.shade_ast.specs.Chains.{After, done, Infix}
+use Rattle.shade_ast.proofs.Tails.{unroll, tail_stops, tail_ends}
+use Rattle.shade_cursor.specs.declared.operators.Joint.{Joint}
+use Rattle.shade_cursor.specs.declared.operators.Joint.TheVariants as joint
+use Rattle.shade_cursor.specs.Operators.{found, joint_of, joint_sign, joint_infix, Joins}
 use Rattle.shade_parse_expr.specs.Rests.{is_bare, JoinStep, JoinPart, joint_rank, Joining, Joined, not_joined, joined}
-use Rattle.shade_parse_expr.proofs.Tokens.{untold, some_one}
+use Rattle.shade_cursor.proofs.Tokens.{untold, some_one}
 use Rattle.shade_parse_expr.proofs.Layers.{expression_there, expression_back}
 use Rattle.shade_parse_expr.proofs.Chains.{then_reads, then_fails, step_reads, step_fails, fails_as}
 

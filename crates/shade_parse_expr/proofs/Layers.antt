@@ -6,14 +6,17 @@ use Rattle.shade_ast.specs.declared.expr.Infix.{Infix as InfixOperator}
 use Rattle.shade_ast.specs.declared.expr.Infix.TheVariants as between
 use Rattle.shade_ast.specs.Lexemes.{Lexeme, Mark}
 use Rattle.shade_ast.specs.Shapes.{ExprShape, infixed, place_of}
-use Rattle.shade_ast.specs.Expressions.{Access, by_name, by_index, Additive, multiplicative, add, subtract, And, and_first, and_more, BitAnd, bit_and_first, bit_and_more, BitOr, bit_or_first, bit_or_more, BitXor, bit_xor_first, bit_xor_more, calls, Expression, relational, either, both as both_sides, bit_and, bit_or, bit_xor, Multiplicative, unary, multiply, divide, remainder, Or, or_first, or_more, Primary, called, typed, numeral, true_word, false_word, parens, Relational, shifted as shift_alone, less, greater, less_equal, greater_equal as greater_or_equal, equal, not_equal, Shift, additive, shift_left, shift_right, Singular, primary, accessed, TypeName, plain_type, template_type, Unary, negate, not, complement, deref, address_of, operand}
-use Rattle.shade_ast.proofs.Stages.{After}
-use Rattle.shade_ast.proofs.Tails.{Tail, done, on, Leftward}
-use Rattle.shade_ast.proofs.LeftLaws.{OrStep, AndStep, BitAndStep, BitOrStep, BitXorStep, or_steps, and_steps, bit_and_steps, bit_or_steps, bit_xor_steps}
-use Rattle.shade_parse_expr.proofs.Tokens.{pair, op_one}
-use Rattle.shade_parse_expr.specs.declared.operators.Joint.{Joint}
-use Rattle.shade_parse_expr.specs.declared.operators.Joint.TheVariants as joint
-use Rattle.shade_parse_expr.specs.Operators.{relation_of, Joins}
+use Rattle.shade_ast.specs.Expressions.{Access, by_name, by_index, Additive, multiplicative, add, subtract, And, and_first, and_more, BitAnd, bit_and_first, bit_and_more, BitOr, bit_or_first, bit_or_more, BitXor, bit_xor_first, bit_xor_more, calls, Expression, relational, either}
+use Rattle.shade_ast.specs.Expressions.{both as both_sides, bit_and, bit_or, bit_xor, Multiplicative, unary, multiply, divide, remainder, Or, or_first, or_more, Primary, called, typed, numeral, true_word, false_word, parens, Relational, shifted as shift_alone, less, greater}
+use Rattle.shade_ast.specs.Expressions.{less_equal, greater_equal as greater_or_equal, equal, not_equal, Shift, additive, shift_left, shift_right, Singular, primary, accessed, TypeName, plain_type, template_type, Unary, negate, not, complement, deref, address_of, operand}
+use Rattle.shade_ast.specs.Chains.{After, Tail, done, on}
+use Rattle.shade_ast.proofs.Tails.{Leftward}
+use Rattle.shade_ast.specs.Steps.{OrStep, AndStep, BitAndStep, BitOrStep, BitXorStep}
+use Rattle.shade_ast.proofs.LeftLaws.{or_steps, and_steps, bit_and_steps, bit_or_steps, bit_xor_steps}
+use Rattle.shade_cursor.proofs.Tokens.{pair, op_one}
+use Rattle.shade_cursor.specs.declared.operators.Joint.{Joint}
+use Rattle.shade_cursor.specs.declared.operators.Joint.TheVariants as joint
+use Rattle.shade_cursor.specs.Operators.{relation_of, Joins}
 use Rattle.shade_parse_expr.specs.Rests.{is_bare, Comparison, plain, greater_equal, Compared, not_compared, compared, Shifting, leftwards, rightwards, Shifted, not_shifted, shifted, JoinStep, Joined, not_joined, joined}
 
 type_bare : (e : ExprShape) (ts w : List Lexeme) → TypeName e ts w → is_bare e ≡ true

@@ -1,6 +1,3 @@
-pub mod PieceLaws
-pub mod Tokens
-pub mod Stands
 pub mod Chains
 pub mod Layers
 pub mod Ranks
@@ -14,7 +11,5 @@ pub mod Turns
 pub mod Readings
 pub mod Accesses
 pub mod Loops
-pub mod PassLaws
-pub mod DepthLaws
 pub mod AnswerLaws
 pub mod OnceLaws

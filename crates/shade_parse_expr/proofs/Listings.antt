@@ -8,13 +8,14 @@ use Rattle.shade_ast.specs.Shapes.{ExprShape, named, paren}
 use Rattle.shade_ast.specs.Repeats.{Listed, MaybeListed, nothing, something}
 use Rattle.shade_ast.specs.Expressions.{Expression, LeftSide}
 use Rattle.shade_ast.specs.Reads.{Near, Reads, Fails, rank, rank_of}
-use Rattle.shade_ast.proofs.Stages.{Stage, After, Ends, near_get, begin, change, phrase, phrase_fails, finish_ends, stuck}
-use Rattle.shade_ast.proofs.Heads.{Headed, take_head}
-use Rattle.shade_ast.proofs.Lists.{Closed, Item, Choice, listed_begin, maybe_begin, choose_close, choose_item, item_fails, item_close, item_stuck, item_comma}
+use Rattle.shade_ast.proofs.Stages.{Stage, near_get, begin, change, phrase, phrase_fails, finish_ends, stuck}
+use Rattle.shade_ast.specs.Chains.{After, Ends, Headed, Closed}
+use Rattle.shade_ast.proofs.Heads.{take_head}
+use Rattle.shade_ast.proofs.Lists.{Item, Choice, listed_begin, maybe_begin, choose_close, choose_item, item_fails, item_close, item_stuck, item_comma}
 use Rattle.shade_ast.proofs.Firsts.{BeginsExpr, first_is, expression_first}
-use Rattle.shade_ast.proofs.LeftLaws.{LeftFirst, first_name, first_parens}
+use Rattle.shade_ast.specs.Steps.{LeftFirst, first_name, first_parens}
 use Rattle.shade_ast.proofs.Placed.{some_place}
-use Rattle.shade_parse_expr.specs.Operators.{Closing}
+use Rattle.shade_cursor.specs.Operators.{Closing}
 use Rattle.shade_parse_expr.proofs.Chains.{then_reads, then_fails}
 use Rattle.shade_parse_expr.proofs.Prefixes.{Closer, closer_closes, closer_stops, closer_reads, closer_stuck}
 
@@ -77,7 +78,11 @@ module _ (tokens : List Lexeme) (from : ℕ) (h : from ≤ length tokens) where
   Arguments = Closed (MaybeListed Expression) (Mark sign.Close)
 
   pub arguments_none : (p : Place) → slice_get tokens from ≡ Some (Mark sign.Close p) → Reads Arguments 0 tokens from ([], false) (from + 1)
-  arguments_none p is = choose_close Expression (Mark sign.Close) 7 (omega arith) (closing_rank sign.Close (inl refl)) (closing_apart sign.Close (inl refl)) (no_item sign.Close (inl refl)) Arguments 0 tokens from from [] false (maybe_begin Expression (Mark sign.Close) 7 (omega arith) (closing_rank sign.Close (inl refl)) (closing_apart sign.Close (inl refl)) (no_item sign.Close (inl refl)) 0 tokens from h) p ([], false) refl is
+  arguments_none p is =
+      let the_no_item = no_item sign.Close (inl refl) in
+      let the_closing_rank = closing_rank sign.Close (inl refl) in
+      let the_closing_apart = closing_apart sign.Close (inl refl) in
+      choose_close Expression (Mark sign.Close) 7 (omega arith) the_closing_rank the_closing_apart the_no_item Arguments 0 tokens from from [] false (maybe_begin Expression (Mark sign.Close) 7 (omega arith) the_closing_rank the_closing_apart the_no_item 0 tokens from h) p ([], false) refl is
 
   some_stage : ((p : Place) → slice_get tokens from ≡ Some (Mark sign.Close p) → ⊥) → Stage Arguments 0 tokens from from (Closed (Listed Expression) (Mark sign.Close))
   some_stage never =
@@ -124,7 +129,10 @@ module _ (tokens : List Lexeme) (from : ℕ) (h : from ≤ length tokens) where
   left_name_reads text p is = finish_ends LeftFirst 1 tokens from (from + 1) (named p text) (named p text) refl (left_at (Word text p) is)
 
   pub left_stuck : ((text : List ℕ) (p : Place) → slice_get tokens from ≡ Some (Word text p) → ⊥) → ((p : Place) → slice_get tokens from ≡ Some (Mark sign.Open p) → ⊥) → Fails LeftFirst 1 tokens from from
-  left_stuck no_word no_open = stuck LeftFirst 1 tokens from from (Headed LeftAt) (record { tree = named some_place []; more = Word [] some_place ∷ []; closed = λ w. record { first = Word [] some_place; others = w; split = refl; at = record { same = refl; left = refl } } }) (λ r ys w stop k near. by k.first r k.others w (near_get tokens from k.first k.others (subst (λ x. Near x (drop from tokens)) k.split near)) k.at) left_begin
+  left_stuck no_word no_open =
+      stuck LeftFirst 1 tokens from from (Headed LeftAt)
+      (record { tree = named some_place []; more = Word [] some_place ∷ []; closed = λ w. record { first = Word [] some_place; others = w; split = refl; at = record { same = refl; left = refl } } })
+      (λ r ys w stop k near. by k.first r k.others w (near_get tokens from k.first k.others (subst (λ x. Near x (drop from tokens)) k.split near)) k.at) left_begin
     where
       by : (t : Lexeme) (r : ExprShape) (us w : List Lexeme) → slice_get tokens from ≡ Some t → LeftAt t r us w → ⊥
       by (Word text p) r us w is a = no_word text p is

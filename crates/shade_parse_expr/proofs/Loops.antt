@@ -16,16 +16,17 @@ use Rattle.shade_ast.specs.Repeats.{Listed}
 use Rattle.shade_ast.specs.Expressions.{Additive, Expression, Multiplicative, Unary}
 use Rattle.shade_ast.specs.Reads.{Reads, Fails}
 use Rattle.shade_ast.proofs.Stages.{Stage}
-use Rattle.shade_ast.proofs.Tails.{Tail, tail_ends, left_more, left_more_fails}
-use Rattle.shade_ast.proofs.Lists.{Closed}
-use Rattle.shade_ast.proofs.LeftLaws.{Factor, factors, factor_ranks, Term, terms, term_ranks}
+use Rattle.shade_ast.specs.Chains.{Tail, Closed}
+use Rattle.shade_ast.proofs.Tails.{tail_ends, left_more, left_more_fails}
+use Rattle.shade_ast.specs.Steps.{Factor, Term}
+use Rattle.shade_ast.proofs.LeftLaws.{factors, factor_ranks, terms, term_ranks}
 use Rattle.shade_ast.proofs.ShapeLaws.{expr_grows, list_grows, length_grows, grows_here, grows_trans}
-use Rattle.shade_parse_expr.specs.declared.part.Part.{Part}
-use Rattle.shade_parse_expr.specs.declared.part.Listing.{Listing}
-use Rattle.shade_parse_expr.specs.Operators.{found, factor_of, term_of, Closing}
+use Rattle.shade_cursor.specs.declared.part.Part.{Part}
+use Rattle.shade_cursor.specs.declared.part.Listing.{Listing}
+use Rattle.shade_cursor.specs.Operators.{found, factor_of, term_of, Closing}
 use Rattle.shade_parse_expr.specs.Parts.{ReadsTree, ReadsList}
-use Rattle.shade_parse_expr.proofs.Tokens.{Told, told, untold, pair}
-use Rattle.shade_parse_expr.proofs.Stands.{factor_there, factor_here, factor_low, factor_none, term_there, term_here, term_low, term_none}
+use Rattle.shade_cursor.proofs.Tokens.{Told, told, untold, pair}
+use Rattle.shade_cursor.proofs.Stands.{factor_there, factor_here, factor_low, factor_none, term_there, term_here, term_low, term_none}
 use Rattle.shade_parse_expr.proofs.Trees.{count_join, counted_all}
 use Rattle.shade_parse_expr.proofs.Turns.{ListTurn}
 use Rattle.shade_parse_expr.proofs.Listings.{list_begin, list_close, list_comma_close, list_item_fails, list_more, list_stuck}
@@ -41,7 +42,8 @@ module _ (tokens : List Lexeme) (from at : ℕ) (l : ExprShape) (s : Stage Multi
     pub factor_more : (b : ExprShape) → Reads Unary 2 tokens (at + 1) b to → Stage Multiplicative 3 tokens from to (Tail Factor (infixed (place_of l) l i p b))
     factor_more b x =
         let t = factor_token in
-        left_more Multiplicative Unary Factor 3 2 factors tokens from Unary 2 (λ l b. infixed (place_of l) l i p b) t.token (omega arith) factor_ranks (factor_low t.token i p t.tells) at l (factor_there t.token i p t.tells l) (factor_here t.token i p t.tells l) t.stands s to b (infixed (place_of l) l i p b) refl x
+        left_more Multiplicative Unary Factor 3 2 factors tokens from Unary 2 (λ l b. infixed (place_of l) l i p b) t.token (omega arith) factor_ranks (factor_low t.token i p t.tells) at l
+        (factor_there t.token i p t.tells l) (factor_here t.token i p t.tells l) t.stands s to b (infixed (place_of l) l i p b) refl x
 
     pub factor_fails : Fails Unary 2 tokens (at + 1) to → Fails Multiplicative 3 tokens from to
     factor_fails f =
@@ -59,7 +61,8 @@ module _ (tokens : List Lexeme) (from at : ℕ) (l : ExprShape) (s : Stage Addit
     pub term_more : (b : ExprShape) → Reads Multiplicative 3 tokens (at + 1) b to → Stage Additive 4 tokens from to (Tail Term (infixed (place_of l) l i p b))
     term_more b x =
         let t = term_token in
-        left_more Additive Multiplicative Term 4 3 terms tokens from Multiplicative 3 (λ l b. infixed (place_of l) l i p b) t.token (omega arith) term_ranks (term_low t.token i p t.tells) at l (term_there t.token i p t.tells l) (term_here t.token i p t.tells l) t.stands s to b (infixed (place_of l) l i p b) refl x
+        left_more Additive Multiplicative Term 4 3 terms tokens from Multiplicative 3 (λ l b. infixed (place_of l) l i p b) t.token (omega arith) term_ranks (term_low t.token i p t.tells) at l
+        (term_there t.token i p t.tells l) (term_here t.token i p t.tells l) t.stands s to b (infixed (place_of l) l i p b) refl x
 
     pub term_fails : Fails Multiplicative 3 tokens (at + 1) to → Fails Additive 4 tokens from to
     term_fails f =

@@ -7,12 +7,14 @@ use Rattle.shade_ast.specs.declared.lexeme.Keyword.TheVariants as word
 use Rattle.shade_ast.specs.declared.lexeme.Sign.TheVariants as sign
 use Rattle.shade_ast.specs.Lexemes.{Lexeme, Word, Key, Number, Mark}
 use Rattle.shade_ast.specs.Shapes.{ExprShape, prefixed}
-use Rattle.shade_ast.specs.Expressions.{calls, LeftSide, left_deref, left_address_of, left_singular, LeftSingular, left_name, left_parens, left_accessed, Primary, called, typed, numeral, true_word, false_word, parens, Singular, primary, accessed, TypeName, plain_type, template_type, Unary, negate, not, complement, deref, address_of, operand}
+use Rattle.shade_ast.specs.Expressions.{calls, LeftSide, left_deref, left_address_of, left_singular, LeftSingular, left_name, left_parens, left_accessed, Primary, called, typed, numeral, true_word, false_word}
+use Rattle.shade_ast.specs.Expressions.{parens, Singular, primary, accessed, TypeName, plain_type, template_type, Unary, negate, not, complement, deref, address_of, operand}
 use Rattle.shade_ast.specs.Reads.{Near, Reads, Fails, rank, rank_of}
-use Rattle.shade_ast.proofs.Stages.{Stage, After, Ends, Closes, near_get, begin, change, consume, phrase, phrase_fails, finish_ends, ends_stops, closes_end, stuck}
+use Rattle.shade_ast.proofs.Stages.{Stage, Closes, near_get, begin, change, consume, phrase, phrase_fails, finish_ends, ends_stops, closes_end, stuck}
+use Rattle.shade_ast.specs.Chains.{After, Ends}
 use Rattle.shade_ast.proofs.Placed.{some_place}
-use Rattle.shade_parse_expr.specs.Operators.{found, prefix_of, left_prefix_of}
-use Rattle.shade_parse_expr.proofs.Tokens.{Told, told, untold, some_one}
+use Rattle.shade_cursor.specs.Operators.{found, prefix_of, left_prefix_of}
+use Rattle.shade_cursor.proofs.Tokens.{Told, told, untold, some_one}
 use Rattle.shade_parse_expr.proofs.Chains.{then_reads, then_fails}
 
 -- a token that closes a phrase

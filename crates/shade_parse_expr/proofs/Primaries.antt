@@ -11,14 +11,15 @@ use Rattle.shade_ast.specs.Shaped.{expr_shapes}
 use Rattle.shade_ast.specs.Repeats.{Listed, MaybeListed, nothing}
 use Rattle.shade_ast.specs.Expressions.{Call, calls, Expression, Primary, called, typed, numeral, true_word, false_word, parens, TypeName, plain_type, template_type}
 use Rattle.shade_ast.specs.Reads.{Near, Reads, Fails, rank, rank_of}
-use Rattle.shade_ast.proofs.Stages.{Stage, After, Ends, Closes, near_get, begin, change, phrase, phrase_fails, finish_ends, ends_stops, closes_end, stuck, single, single_fails}
-use Rattle.shade_ast.proofs.Tails.{Tail, tail_ends}
-use Rattle.shade_ast.proofs.Heads.{Headed, take_head, skip_head}
-use Rattle.shade_ast.proofs.Lists.{Closed}
+use Rattle.shade_ast.proofs.Stages.{Stage, Closes, near_get, begin, change, phrase, phrase_fails, finish_ends, ends_stops, closes_end, stuck, single, single_fails}
+use Rattle.shade_ast.specs.Chains.{After, Ends, Tail, Headed, Closed}
+use Rattle.shade_ast.proofs.Tails.{tail_ends}
+use Rattle.shade_ast.proofs.Heads.{take_head, skip_head}
 use Rattle.shade_ast.proofs.ExprLists.{expr_list, expr_list_back, exprs_there, exprs_here, maybe_exprs_there, maybe_exprs_here}
-use Rattle.shade_ast.proofs.LeftLaws.{AccessStep, IndexStep, MemberStep, access_ranks}
+use Rattle.shade_ast.specs.Steps.{AccessStep, IndexStep, MemberStep}
+use Rattle.shade_ast.proofs.LeftLaws.{access_ranks}
 use Rattle.shade_ast.proofs.Placed.{some_place}
-use Rattle.shade_parse_expr.specs.Operators.{NoLeaf, StandsWord}
+use Rattle.shade_cursor.specs.Operators.{NoLeaf, StandsWord}
 use Rattle.shade_parse_expr.specs.Rests.{Called}
 use Rattle.shade_parse_expr.proofs.Chains.{then_reads, then_fails, step_reads, step_fails}
 use Rattle.shade_parse_expr.proofs.Prefixes.{Closer, closer_closes, closer_stops, closer_reads, closer_stuck}

@@ -8,11 +8,12 @@ use Rattle.shade_ast.specs.Lexemes.{Lexeme, Word, Mark, Adjacent}
 use Rattle.shade_ast.specs.Shapes.{ExprShape, infixed, named, place_of}
 use Rattle.shade_ast.specs.Expressions.{multiplicative, unary, operand, primary, typed, plain_type, Shift, additive, Unary}
 use Rattle.shade_ast.specs.Reads.{Near, rank, rank_of}
-use Rattle.shade_ast.proofs.Stages.{Stage, After, Then, near_get, change, consume, consume_then}
+use Rattle.shade_ast.proofs.Stages.{Stage, near_get, change, consume, consume_then}
+use Rattle.shade_ast.specs.Chains.{After, Then}
 use Rattle.shade_ast.proofs.Placed.{some_place}
-use Rattle.shade_parse_expr.specs.Operators.{relation_of}
+use Rattle.shade_cursor.specs.Operators.{relation_of}
 use Rattle.shade_parse_expr.specs.Rests.{is_bare, Comparison, plain, greater_equal, Compared, not_compared, compared, Shifting, leftwards, rightwards, Shifted, not_shifted, shifted}
-use Rattle.shade_parse_expr.proofs.Tokens.{pair}
+use Rattle.shade_cursor.proofs.Tokens.{pair}
 
 -- a place directly behind a mark of one byte
 abbrev pub after_place : Place → Place

@@ -8,12 +8,13 @@ use Rattle.shade_ast.specs.Lexemes.{Lexeme, Word, Mark, Adjacent}
 use Rattle.shade_ast.specs.Shapes.{ExprShape, infixed, named, place_of}
 use Rattle.shade_ast.specs.Expressions.{Additive, Relational, Shift, Unary}
 use Rattle.shade_ast.specs.Reads.{Near, Reads, Fails, rank, rank_of}
-use Rattle.shade_ast.proofs.Stages.{Stage, After, Then, Ends, Closes, near_append, near_get, one_token, begin, change, consume, consume_then, phrase, phrase_fails, finish, finish_ends, ends_stops, stuck, closes_end}
+use Rattle.shade_ast.proofs.Stages.{Stage, Closes, near_append, near_get, one_token, begin, change, consume, consume_then, phrase, phrase_fails, finish, finish_ends, ends_stops, stuck, closes_end}
+use Rattle.shade_ast.specs.Chains.{After, Then, Ends}
 use Rattle.shade_ast.proofs.Firsts.{First, BeginsExpr, shift_first}
 use Rattle.shade_ast.proofs.Placed.{some_place}
-use Rattle.shade_parse_expr.specs.Operators.{found, relation_of, Behind, ComparisonAt, one_token as one_sign, two_tokens, ShiftAt, to_left, to_right}
+use Rattle.shade_cursor.specs.Operators.{found, relation_of, Behind, ComparisonAt, one_token as one_sign, two_tokens, ShiftAt, to_left, to_right}
 use Rattle.shade_parse_expr.specs.Rests.{is_bare, Comparison, plain, greater_equal, Compared, not_compared, compared, Shifting, leftwards, rightwards, Shifted, not_shifted, shifted}
-use Rattle.shade_parse_expr.proofs.Tokens.{pair, op_one, Told, told, untold}
+use Rattle.shade_cursor.proofs.Tokens.{pair, op_one, Told, told, untold}
 use Rattle.shade_parse_expr.proofs.Layers.{shift_there, shift_back, comparison_there, comparison_back}
 use Rattle.shade_parse_expr.proofs.Ranks.{after_place, compared_stops, shifted_stops, relation_rank, some_unary, some_shift, take_left, take_right}
 use Rattle.shade_parse_expr.proofs.Chains.{then_reads, then_fails, then_reads_by, then_fails_by}
@@ -103,7 +104,9 @@ module _ (l : ExprShape) (tokens : List Lexeme) (at : ℕ) where
   compared_stage i p next (two_tokens is behind) h = let two : at + 1 + 1 ≡ at + 2 = omega arith in subst (λ k. Stage (Compared l) 6 tokens at k (Right between.GreaterEqual p)) two (equal_stage p behind.0 behind.1 behind.2 is h)
 
   pub compared_reads : (i : InfixOperator) (p : Place) (next : ℕ) → ComparisonAt tokens at i p next → at ≤ length tokens → (b : ExprShape) (to : ℕ) → Reads Shift 6 tokens next b to → Reads (Compared l) 6 tokens at (infixed (place_of l) l i p b) to
-  compared_reads i p next o h b to r = finish_ends (Compared l) 6 tokens at to (infixed (place_of l) l i p b) (infixed (place_of l) l i p b) refl (phrase (Compared l) 6 tokens at Shift 6 (λ b. Ends (infixed (place_of l) l i p b)) (λ b q zs w. ends_stops 6 6 (infixed (place_of l) l i p b) q zs w (omega arith)) next to b (compared_stage i p next o h) r)
+  compared_reads i p next o h b to r =
+      finish_ends (Compared l) 6 tokens at to (infixed (place_of l) l i p b) (infixed (place_of l) l i p b) refl
+      (phrase (Compared l) 6 tokens at Shift 6 (λ b. Ends (infixed (place_of l) l i p b)) (λ b q zs w. ends_stops 6 6 (infixed (place_of l) l i p b) q zs w (omega arith)) next to b (compared_stage i p next o h) r)
 
   pub compared_fails : (i : InfixOperator) (p : Place) (next : ℕ) → ComparisonAt tokens at i p next → at ≤ length tokens → (to : ℕ) → Fails Shift 6 tokens next to → Fails (Compared l) 6 tokens at to
   compared_fails i p next o h to f = phrase_fails (Compared l) 6 tokens at Shift 6 (λ b. Ends (infixed (place_of l) l i p b)) (λ b q zs w. ends_stops 6 6 (infixed (place_of l) l i p b) q zs w (omega arith)) next to (λ b. closes_end (infixed (place_of l) l i p b)) (compared_stage i p next o h) f
@@ -134,7 +137,10 @@ module _ (l : ExprShape) (tokens : List Lexeme) (at : ℕ) (p : Place) (is : sli
       cc
 
   fails_some : (to : ℕ) (x : Fails (Compared l) 6 tokens at to) → x.us ≡ [] → ⊥
-  fails_some to x empty = x.none (infixed (place_of l) l between.Greater p (named some_place [])) (Mark sign.Greater p ∷ (Word [] some_place ∷ [])) [] (subst (λ y. Compared l (infixed (place_of l) l between.Greater p (named some_place [])) (y ++ Mark sign.Greater p ∷ (Word [] some_place ∷ [])) []) (sym empty) (closed [])) (omega arith) (near_greater to x.us empty x.spelled)
+  fails_some to x empty =
+      let rest = Word [] some_place ∷ [] in
+      let the_infixed = infixed (place_of l) l between.Greater p (named some_place []) in
+      x.none the_infixed (Mark sign.Greater p ∷ rest) [] (subst (λ y. Compared l the_infixed (y ++ Mark sign.Greater p ∷ rest) []) (sym empty) (closed [])) (omega arith) (near_greater to x.us empty x.spelled)
 
 -- no shift stands here
 abbrev pub NoShift : List Lexeme → ℕ → ExprShape → Type 0
@@ -300,4 +306,6 @@ module _ (tokens : List Lexeme) (from : ℕ) (h : from ≤ length tokens) where
       shift_operand_fails f = phrase_fails Shift 6 tokens from Unary 2 (λ b. Ends (infixed (place_of l) l i p b)) (λ b q zs w. ends_stops 6 2 (infixed (place_of l) l i p b) q zs w (omega arith)) next to (λ b. closes_end (infixed (place_of l) l i p b)) (shift_taken i p next o) f
 
       pub shift_reads : (b : ExprShape) → Reads Unary 2 tokens next b to → Reads Shift 6 tokens from (infixed (place_of l) l i p b) to
-      shift_reads b x = finish_ends Shift 6 tokens from to (infixed (place_of l) l i p b) (infixed (place_of l) l i p b) refl (phrase Shift 6 tokens from Unary 2 (λ b. Ends (infixed (place_of l) l i p b)) (λ b q zs w. ends_stops 6 2 (infixed (place_of l) l i p b) q zs w (omega arith)) next to b (shift_taken i p next o) x)
+      shift_reads b x =
+          finish_ends Shift 6 tokens from to (infixed (place_of l) l i p b) (infixed (place_of l) l i p b) refl
+          (phrase Shift 6 tokens from Unary 2 (λ b. Ends (infixed (place_of l) l i p b)) (λ b q zs w. ends_stops 6 2 (infixed (place_of l) l i p b) q zs w (omega arith)) next to b (shift_taken i p next o) x)

@@ -1,9 +1,7 @@
 -- Trees that were read, with the numbers of their nodes and names.
-use Rattle.std.proofs.Common.{◌≡◌, refl, sym, ap, ◌∙◌, subst, ℕ, ◌+◌, ◌<◌, ◌≤◌, max, Bool, true, false, List, [], ◌∷◌, ◌++◌, length, map, arith, append_assoc, Some, slice_get}
+use Rattle.std.proofs.Common.{◌≡◌, refl, sym, ap, ◌∙◌, subst, ℕ, ◌+◌, ◌<◌, ◌≤◌, max, Bool, true, false, List, [], ◌∷◌, ◌++◌, length, map, arith, append_assoc, Some, slice_get, get_or}
 use Rattle.std.specs.Prelude.{slice_index_or}
-use Rattle.std.proofs.lemmas.List.{append-nil}
-use Rattle.std.proofs.Common.{get_or}
-use Rattle.std.proofs.lemmas.List.{get_or_append_left}
+use Rattle.std.proofs.lemmas.List.{append-nil, get_or_append_left}
 use Rattle.std.proofs.lemmas.Option.{slice_get_within, get_or_from_slice_get, slice_get-get_or}
 use Rattle.shade_base.specs.declared.place.Place.{Place}
 use Rattle.shade_lex.specs.declared.token.Suffix.{Suffix}
@@ -24,7 +22,7 @@ use Rattle.shade_ast.specs.Reads.{Reads}
 use Rattle.shade_ast.proofs.ExprLayers.{kind_shape, kind_count, expr_is, expr_count, shape-Infix, shape-Prefix, shape-Member, shape-Index, shape-Call, shape-Template, shape-Name, shape-Number, shape-True, shape-False, shape-Paren, needs-Infix, needs-Prefix, needs-Member, needs-Index, needs-Call, needs-Template, needs-Name, needs-Number, needs-True, needs-False, needs-Paren}
 use Rattle.shade_ast.proofs.ExprNodes.{kind_numbers, expr_numbers, nodes-Infix, nodes-Prefix, nodes-Member, nodes-Index, nodes-Call, nodes-Template, nodes-Name, nodes-Number, nodes-True, nodes-False, nodes-Paren}
 use Rattle.shade_ast.proofs.ShapeLaws.{expr_grows, length_grows}
-use Rattle.shade_parse_expr.specs.declared.part.Part.{Part}
+use Rattle.shade_cursor.specs.declared.part.Part.{Part}
 use Rattle.shade_parse_expr.specs.Rests.{is_bare}
 use Rattle.shade_parse_expr.specs.Parts.{Counted, ReadsTree}
 
@@ -108,7 +106,9 @@ tree_chain names prior node p q c t = record { known = t.known; nodes = counted_
 
 -- a tree that was built: its shape, its names and its nodes
 module _ (names : List (List ℕ)) (prior : List ℕ) (node : ℕ) (p : Part) where
-  built : (k : ExprKind) (place : Place) (end : ℕ) (last : ℕ) (bare : Bool) (s : ExprShape) (nodes : List ℕ) (needs : ℕ) → p ≡ record { expr = record { node = last; place = place; kind = k }; end = end; node = last + 1; bare = bare } → kind_shape names k place ≡ s → kind_count k ≡ needs → needs ≤ length names → kind_numbers k ≡ nodes → Counted prior nodes node last → bare ≡ is_bare s → (expr_shape names p.expr ≡ s) × Tree names prior node p
+  built : (k : ExprKind) (place : Place) (end : ℕ) (last : ℕ) (bare : Bool) (s : ExprShape) (nodes : List ℕ) (needs : ℕ) →
+      p ≡ record { expr = record { node = last; place = place; kind = k }; end = end; node = last + 1; bare = bare } → kind_shape names k place ≡ s → kind_count k ≡ needs → needs ≤ length names →
+      kind_numbers k ≡ nodes → Counted prior nodes node last → bare ≡ is_bare s → (expr_shape names p.expr ≡ s) × Tree names prior node p
   built k place end last bare s nodes needs same shape count known numbers counted flag =
       let e : Expr = record { node = last; place = place; kind = k } in
       let shaped : expr_shape names p.expr ≡ s = ap (λ x. expr_shape names x.expr) same ∙ expr_is names e ∙ shape in
@@ -123,25 +123,34 @@ module _ (names : List (List ℕ)) (prior : List ℕ) (node : ℕ) (p : Part) wh
         },
       )
 
-  pub built_infix : (l r : Part) (i : InfixOperator) (at : Place) → p ≡ record { expr = record { node = r.node; place = l.expr.place; kind = kind.Infix l.expr i at r.expr }; end = r.end; node = r.node + 1; bare = false } → Tree names prior node l → Tree names [] l.node r → (expr_shape names p.expr ≡ infixed (place_of (expr_shape names l.expr)) (expr_shape names l.expr) i at (expr_shape names r.expr)) × Tree names prior node p
+  pub built_infix : (l r : Part) (i : InfixOperator) (at : Place) →
+      p ≡ record { expr = record { node = r.node; place = l.expr.place; kind = kind.Infix l.expr i at r.expr }; end = r.end; node = r.node + 1; bare = false } → Tree names prior node l →
+      Tree names [] l.node r → (expr_shape names p.expr ≡ infixed (place_of (expr_shape names l.expr)) (expr_shape names l.expr) i at (expr_shape names r.expr)) × Tree names prior node p
   built_infix l r i at same a b =
       built (kind.Infix l.expr i at r.expr) l.expr.place r.end r.node false (infixed (place_of (expr_shape names l.expr)) (expr_shape names l.expr) i at (expr_shape names r.expr)) (expr_nodes l.expr ++ expr_nodes r.expr) (max (expr_needs l.expr) (expr_needs r.expr)) same
       (shape-Infix names l.expr.place l.expr i at r.expr ∙ ap (λ x. infixed x (expr_shape names l.expr) i at (expr_shape names r.expr)) (sym (place_same names l.expr)))
       (needs-Infix l.expr i at r.expr) (let x : expr_needs l.expr ≤ length names = a.known in let y : expr_needs r.expr ≤ length names = b.known in omega arith) (nodes-Infix l.expr i at r.expr) (counted_more prior (expr_nodes l.expr) node l.node r.node (expr_nodes r.expr) a.nodes (counted_all (expr_nodes r.expr) l.node r.node b.nodes)) refl
 
-  pub built_prefix : (r : Part) (o : PrefixOperator) (at : Place) → p ≡ record { expr = record { node = r.node; place = at; kind = kind.Prefix o r.expr }; end = r.end; node = r.node + 1; bare = true } → Tree names prior node r → (expr_shape names p.expr ≡ prefixed at o (expr_shape names r.expr)) × Tree names prior node p
+  pub built_prefix : (r : Part) (o : PrefixOperator) (at : Place) →
+      p ≡ record { expr = record { node = r.node; place = at; kind = kind.Prefix o r.expr }; end = r.end; node = r.node + 1; bare = true } → Tree names prior node r →
+      (expr_shape names p.expr ≡ prefixed at o (expr_shape names r.expr)) × Tree names prior node p
   built_prefix r o at same b = built (kind.Prefix o r.expr) at r.end r.node true (prefixed at o (expr_shape names r.expr)) (expr_nodes r.expr) (expr_needs r.expr) same (shape-Prefix names at o r.expr) (needs-Prefix o r.expr) b.known (nodes-Prefix o r.expr) b.nodes refl
 
   pub built_paren : (r : Part) (at : Place) → p ≡ record { expr = record { node = r.node; place = at; kind = kind.Paren r.expr }; end = r.end + 1; node = r.node + 1; bare = true } → Tree names prior node r → (expr_shape names p.expr ≡ paren at (expr_shape names r.expr)) × Tree names prior node p
   built_paren r at same b = built (kind.Paren r.expr) at (r.end + 1) r.node true (paren at (expr_shape names r.expr)) (expr_nodes r.expr) (expr_needs r.expr) same (shape-Paren names at r.expr) (needs-Paren r.expr) b.known (nodes-Paren r.expr) b.nodes refl
 
-  pub built_index : (l r : Part) (at : Place) → p ≡ record { expr = record { node = r.node; place = l.expr.place; kind = kind.Index l.expr at r.expr }; end = r.end + 1; node = r.node + 1; bare = true } → Tree names prior node l → Tree names [] l.node r → (expr_shape names p.expr ≡ index (place_of (expr_shape names l.expr)) (expr_shape names l.expr) at (expr_shape names r.expr)) × Tree names prior node p
+  pub built_index : (l r : Part) (at : Place) →
+      p ≡ record { expr = record { node = r.node; place = l.expr.place; kind = kind.Index l.expr at r.expr }; end = r.end + 1; node = r.node + 1; bare = true } → Tree names prior node l →
+      Tree names [] l.node r → (expr_shape names p.expr ≡ index (place_of (expr_shape names l.expr)) (expr_shape names l.expr) at (expr_shape names r.expr)) × Tree names prior node p
   built_index l r at same a b =
       built (kind.Index l.expr at r.expr) l.expr.place (r.end + 1) r.node true (index (place_of (expr_shape names l.expr)) (expr_shape names l.expr) at (expr_shape names r.expr)) (expr_nodes l.expr ++ expr_nodes r.expr) (max (expr_needs l.expr) (expr_needs r.expr)) same
       (shape-Index names l.expr.place l.expr at r.expr ∙ ap (λ x. index x (expr_shape names l.expr) at (expr_shape names r.expr)) (sym (place_same names l.expr)))
       (needs-Index l.expr at r.expr) (let x : expr_needs l.expr ≤ length names = a.known in let y : expr_needs r.expr ≤ length names = b.known in omega arith) (nodes-Index l.expr at r.expr) (counted_more prior (expr_nodes l.expr) node l.node r.node (expr_nodes r.expr) a.nodes (counted_all (expr_nodes r.expr) l.node r.node b.nodes)) refl
 
-  pub built_member : (l : Part) (dot place : Place) (name : ℕ) (text : List ℕ) → p ≡ record { expr = record { node = l.node + 1; place = l.expr.place; kind = kind.Member l.expr dot (record { node = l.node; place = place; name = name }) }; end = l.end + 2; node = l.node + 1 + 1; bare = true } → Tree names prior node l → slice_get names name ≡ Some text → (expr_shape names p.expr ≡ member (place_of (expr_shape names l.expr)) (expr_shape names l.expr) dot (record { place = place; text = text })) × Tree names prior node p
+  pub built_member : (l : Part) (dot place : Place) (name : ℕ) (text : List ℕ) →
+      p ≡ record { expr = record { node = l.node + 1; place = l.expr.place; kind = kind.Member l.expr dot (record { node = l.node; place = place; name = name }) }; end = l.end + 2; node = l.node + 1 + 1; bare = true } →
+      Tree names prior node l → slice_get names name ≡ Some text →
+      (expr_shape names p.expr ≡ member (place_of (expr_shape names l.expr)) (expr_shape names l.expr) dot (record { place = place; text = text })) × Tree names prior node p
   built_member l dot place name text same a stored =
       let n : Named = record { node = l.node; place = place; name = name } in
       let lt : name < length names = slice_get_within names name text stored in
@@ -149,7 +158,10 @@ module _ (names : List (List ℕ)) (prior : List ℕ) (node : ℕ) (p : Part) wh
       (shape-Member names l.expr.place l.expr dot n ∙ ap (λ x. member x (expr_shape names l.expr) dot (record { place = place; text = slice_index_or names name [] })) (sym (place_same names l.expr)) ∙ ap (λ x. member (place_of (expr_shape names l.expr)) (expr_shape names l.expr) dot (record { place = place; text = x })) (get_or_from_slice_get names name text [] stored))
       (needs-Member l.expr dot n) (let x : expr_needs l.expr ≤ length names = a.known in omega arith) (nodes-Member l.expr dot n) (counted_more prior (expr_nodes l.expr) node l.node (l.node + 1) (l.node ∷ []) a.nodes (count_one l.node)) refl
 
-  pub built_call : (l : Part) (es : List Expr) (trailing : Bool) (end last : ℕ) → p ≡ record { expr = record { node = last; place = l.expr.place; kind = kind.Call l.expr es trailing }; end = end; node = last + 1; bare = true } → Tree names prior node l → most_of expr_needs es ≤ length names → CountFrom l.node (joined_of expr_nodes es) last → (expr_shape names p.expr ≡ call (place_of (expr_shape names l.expr)) (expr_shape names l.expr) (expr_shapes (map (expr_shape names) es)) trailing) × Tree names prior node p
+  pub built_call : (l : Part) (es : List Expr) (trailing : Bool) (end last : ℕ) →
+      p ≡ record { expr = record { node = last; place = l.expr.place; kind = kind.Call l.expr es trailing }; end = end; node = last + 1; bare = true } → Tree names prior node l →
+      most_of expr_needs es ≤ length names → CountFrom l.node (joined_of expr_nodes es) last →
+      (expr_shape names p.expr ≡ call (place_of (expr_shape names l.expr)) (expr_shape names l.expr) (expr_shapes (map (expr_shape names) es)) trailing) × Tree names prior node p
   built_call l es trailing end last same a known counted =
       built (kind.Call l.expr es trailing) l.expr.place end last true (call (place_of (expr_shape names l.expr)) (expr_shape names l.expr) (expr_shapes (map (expr_shape names) es)) trailing) (expr_nodes l.expr ++ joined_of expr_nodes es) (max (expr_needs l.expr) (most_of expr_needs es)) same
       (shape-Call names l.expr.place l.expr es trailing ∙ ap (λ x. call x (expr_shape names l.expr) (expr_shapes (map (expr_shape names) es)) trailing) (sym (place_same names l.expr)))
@@ -157,14 +169,18 @@ module _ (names : List (List ℕ)) (prior : List ℕ) (node : ℕ) (p : Part) wh
 
 -- a tree with no part before it
 module _ (names : List (List ℕ)) (node : ℕ) (p : Part) where
-  pub built_template : (place : Place) (name : ℕ) (text : List ℕ) (es : List Expr) (trailing : Bool) (end last : ℕ) → p ≡ record { expr = record { node = last; place = place; kind = kind.Template name es trailing }; end = end; node = last + 1; bare = true } → slice_get names name ≡ Some text → most_of expr_needs es ≤ length names → CountFrom node (joined_of expr_nodes es) last → (expr_shape names p.expr ≡ template place text (expr_shapes (map (expr_shape names) es)) trailing) × Tree names [] node p
+  pub built_template : (place : Place) (name : ℕ) (text : List ℕ) (es : List Expr) (trailing : Bool) (end last : ℕ) →
+      p ≡ record { expr = record { node = last; place = place; kind = kind.Template name es trailing }; end = end; node = last + 1; bare = true } → slice_get names name ≡ Some text →
+      most_of expr_needs es ≤ length names → CountFrom node (joined_of expr_nodes es) last →
+      (expr_shape names p.expr ≡ template place text (expr_shapes (map (expr_shape names) es)) trailing) × Tree names [] node p
   built_template place name text es trailing end last same stored known counted =
       let lt : name < length names = slice_get_within names name text stored in
       built names [] node p (kind.Template name es trailing) place end last true (template place text (expr_shapes (map (expr_shape names) es)) trailing) (joined_of expr_nodes es) (max (name + 1) (most_of expr_needs es)) same
       (shape-Template names place name es trailing ∙ ap (λ x. template place x (expr_shapes (map (expr_shape names) es)) trailing) (get_or_from_slice_get names name text [] stored))
       (needs-Template name es trailing) (omega arith) (nodes-Template name es trailing) (record { more = joined_of expr_nodes es; nodes_are = refl; counted = counted }) refl
 
-  leaf : (k : ExprKind) (place : Place) (end : ℕ) (s : ExprShape) (needs : ℕ) → p ≡ record { expr = record { node = node; place = place; kind = k }; end = end; node = node + 1; bare = true } → kind_shape names k place ≡ s → kind_count k ≡ needs → needs ≤ length names → kind_numbers k ≡ [] → true ≡ is_bare s → (expr_shape names p.expr ≡ s) × Tree names [] node p
+  leaf : (k : ExprKind) (place : Place) (end : ℕ) (s : ExprShape) (needs : ℕ) → p ≡ record { expr = record { node = node; place = place; kind = k }; end = end; node = node + 1; bare = true } →
+      kind_shape names k place ≡ s → kind_count k ≡ needs → needs ≤ length names → kind_numbers k ≡ [] → true ≡ is_bare s → (expr_shape names p.expr ≡ s) × Tree names [] node p
   leaf k place end s needs same shape count known numbers flag = built names [] node p k place end node true s [] needs same shape count known numbers (record { more = []; nodes_are = refl; counted = refl }) flag
 
   pub leaf_name : (place : Place) (end name : ℕ) (text : List ℕ) → p ≡ record { expr = record { node = node; place = place; kind = kind.Name name }; end = end; node = node + 1; bare = true } → slice_get names name ≡ Some text → (expr_shape names p.expr ≡ named place text) × Tree names [] node p

@@ -1,5 +1,5 @@
 -- A part that was read, what is left of its phrase, and the numbers of its nodes and names.
-use Rattle.std.proofs.Common.{◌≡◌, sym, subst, ℕ, ◌+◌, ◌≤◌, List, length, map, arith, Result, Ok, Err, MatchResult}
+use Rattle.std.proofs.Common.{◌≡◌, sym, subst, ℕ, ◌+◌, ◌≤◌, List, length, map, arith, Result, Ok, Err, MatchResult, IfOk, rules}
 use Rattle.std.specs.Result.{IsErrAnd}
 use Rattle.shade_ast.specs.declared.expr.Expr.{Expr}
 use Rattle.shade_ast.specs.declared.lexeme.Sign.{Sign}
@@ -13,11 +13,12 @@ use Rattle.shade_ast.specs.Repeats.{Listed}
 use Rattle.shade_ast.specs.Expressions.{Expression}
 use Rattle.shade_ast.specs.Reads.{Reads, Fails}
 use Rattle.shade_ast.proofs.Stages.{Stage}
-use Rattle.shade_ast.proofs.Lists.{Closed, Item}
+use Rattle.shade_ast.specs.Chains.{Closed}
+use Rattle.shade_ast.proofs.Lists.{Item}
 use Rattle.shade_ast.proofs.ShapeLaws.{expr_grows}
-use Rattle.shade_parse_expr.specs.declared.part.Part.{Part}
-use Rattle.shade_parse_expr.specs.declared.part.Fault.{Fault}
-use Rattle.shade_parse_expr.specs.declared.part.Fault.TheVariants as fault
+use Rattle.shade_cursor.specs.declared.part.Part.{Part}
+use Rattle.shade_cursor.specs.declared.part.Fault.{Fault}
+use Rattle.shade_cursor.specs.declared.part.Fault.TheVariants as fault
 use Rattle.shade_parse_expr.specs.Parts.{FailsAt, Faults}
 use Rattle.shade_parse_expr.proofs.Trees.{Tree}
 
@@ -49,7 +50,8 @@ pub answers : {T : Type 0} (r : Result T Fault) (P P2 : T → Type 0) (Q Q2 : Fa
 answers (Ok x) P P2 Q Q2 p q m = p x m
 answers (Err e) P P2 Q Q2 p q m = q e m
 
-pub fault_on : {R S : Type 0} (G : R → List Lexeme → List Lexeme → Type 0) (B : S → List Lexeme → List Lexeme → Type 0) (n m : ℕ) (tokens : List Lexeme) (first mid new : List (List ℕ)) (from at : ℕ) (f : Fault) → length mid + from ≤ length first + at → ((to : ℕ) → Fails B m tokens at to → Fails G n tokens from to) → Faults B m tokens mid new at f → Faults G n tokens first new from f
+pub fault_on : {R S : Type 0} (G : R → List Lexeme → List Lexeme → Type 0) (B : S → List Lexeme → List Lexeme → Type 0) (n m : ℕ) (tokens : List Lexeme) (first mid new : List (List ℕ)) (from at : ℕ) (f : Fault) →
+    length mid + from ≤ length first + at → ((to : ℕ) → Fails B m tokens at to → Fails G n tokens from to) → Faults B m tokens mid new at f → Faults G n tokens first new from f
 fault_on G B n m tokens first mid new from at (fault.Unexpected to) le k x = record { fails = k to x.fails; few = (let few : length new + at ≤ length mid + to = x.few in omega arith) }
 fault_on G B n m tokens first mid new from at fault.NoMemory le k x = omega arith
 
@@ -64,5 +66,15 @@ module _ (G : ExprShape → List Lexeme → List Lexeme → Type 0) (n : ℕ) (C
   pub stage_grows : (old new : List (List ℕ)) (prior : List ℕ) (node : ℕ) (left : Part) → Tree old prior node left → Grows old new → Stage G n tokens from left.end (C (expr_shape old left.expr)) → Stage G n tokens from left.end (C (expr_shape new left.expr))
   stage_grows old new prior node left t g s = subst (λ x. Stage G n tokens from left.end (C x)) (sym (expr_grows old new left.expr t.known g)) s
 
-pub reads_grows : (G : ExprShape → List Lexeme → List Lexeme → Type 0) (n : ℕ) (tokens : List Lexeme) (from : ℕ) (old new : List (List ℕ)) (prior : List ℕ) (node : ℕ) (left : Part) → Tree old prior node left → Grows old new → Reads G n tokens from (expr_shape old left.expr) left.end → Reads G n tokens from (expr_shape new left.expr) left.end
+pub reads_grows : (G : ExprShape → List Lexeme → List Lexeme → Type 0) (n : ℕ) (tokens : List Lexeme) (from : ℕ) (old new : List (List ℕ)) (prior : List ℕ) (node : ℕ) (left : Part) →
+    Tree old prior node left → Grows old new → Reads G n tokens from (expr_shape old left.expr) left.end → Reads G n tokens from (expr_shape new left.expr) left.end
 reads_grows G n tokens from old new prior node left t g s = subst (λ x. Reads G n tokens from x left.end) (sym (expr_grows old new left.expr t.known g)) s
+
+-- what a result holds, where its call ends a function: said so, and not searched for, at each such end
+pub if_ok : {T : Type 0} (r : Result T Fault) (P Q : T → Type 0) → IfOk r P → ((x : T) → P x → Q x) → IfOk r Q
+if_ok (Ok x) P Q h k = k x h
+if_ok (Err f) P Q h k = search rules
+
+pub if_built : {T : Type 0} (r : Result T Fault) (q : T) (P : T → Type 0) (E : Fault → Type 0) → MatchResult r (λ p. p ≡ q) E → P q → IfOk r P
+if_built (Ok x) q P E same p = subst P (sym same) p
+if_built (Err f) q P E same p = search rules

@@ -1,7 +1,5 @@
 -- What is answered of the tokens of a text, from one of them on: the phrase of a goal that they spell, or why they spell none.
-use Rattle.std.specs.Prelude.{◌≡◌, ℕ, ◌+◌, ◌<◌, ◌≤◌, List, [], length, Option, None, Some, slice_get, slice_range}
-use Rattle.shade_base.specs.declared.place.Place.{Place}
-use Rattle.shade_base.specs.Lines.{place_of}
+use Rattle.std.specs.Prelude.{ℕ, ◌+◌, ◌<◌, ◌≤◌, List, [], length, slice_range}
 use Rattle.shade_lex.specs.declared.token.Token.{Token}
 use Rattle.shade_ast.specs.declared.expr.Expr.{Expr}
 use Rattle.shade_ast.specs.Lexemes.{Lexeme}
@@ -13,11 +11,12 @@ use Rattle.shade_ast.specs.Expressions.{Expression, TypeName, LeftSide, Call}
 use Rattle.shade_ast.specs.Places.{Begins, IsStop, IsOnly}
 use Rattle.shade_parse_expr.specs.declared.goal.Goal.{Goal}
 use Rattle.shade_parse_expr.specs.declared.goal.Goal.TheVariants as goals
-use Rattle.shade_parse_expr.specs.declared.fault.Refusal.{Refusal}
-use Rattle.shade_parse_expr.specs.declared.fault.Refusal.TheVariants as refusal
-use Rattle.shade_parse_expr.specs.declared.fault.SyntaxFault.{SyntaxFault}
-use Rattle.shade_parse_expr.specs.declared.fault.SyntaxFault.TheVariants as fault
-use Rattle.shade_parse_expr.specs.Depths.{IsDeep}
+use Rattle.shade_cursor.specs.declared.fault.Refusal.{Refusal}
+use Rattle.shade_cursor.specs.declared.fault.Refusal.TheVariants as refusal
+use Rattle.shade_cursor.specs.declared.fault.SyntaxFault.{SyntaxFault}
+use Rattle.shade_cursor.specs.declared.fault.SyntaxFault.TheVariants as fault
+use Rattle.shade_cursor.specs.Depths.{IsDeep}
+use Rattle.shade_cursor.specs.TokenPlaces.{IsPlaceOf}
 
 -- the production that a goal names
 abbrev pub production : Goal → ExprShape → List Lexeme → List Lexeme → Type 0
@@ -67,28 +66,8 @@ IsRefused goal tokens old new from (refusal.Unexpected at) = IsUnexpected goal t
 IsRefused goal tokens old new from (refusal.TooDeep at) = IsTooDeep goal tokens old new from at
 IsRefused goal tokens old new from refusal.NoMemory = AreFew old new from (length tokens)
 
-abbrev pub place_by : List ℕ → Option Token → Place
-place_by text None = place_of text (length text)
-place_by text (Some token) = token.place
-
--- the place of a token, or the end of the text behind the last
-abbrev pub place_at : List ℕ → List Token → ℕ → Place
-place_at text tokens k = place_by text (slice_get tokens k)
-
--- a place is that of a token of which something is true, or the end of the text if it is true of the end of the tokens
-pub record IsPlaceOf (text : List ℕ) (tokens : List Token) (is : ℕ → Type 0) (place : Place) : Type 0 where
-  pub token : ℕ
-  pub stands : place ≡ place_at text tokens token
-  pub fact : is token
-
 -- what a fault says of the tokens of a text, which are given as tokens and as what the grammar reads
 abbrev pub IsFault : Goal → List ℕ → List Token → List Lexeme → List (List ℕ) → List (List ℕ) → ℕ → SyntaxFault → Type 0
 IsFault goal text tokens read old new from (fault.Unexpected place) = IsPlaceOf text tokens (IsUnexpected goal read old new from) place
 IsFault goal text tokens read old new from (fault.TooDeep place) = IsPlaceOf text tokens (IsTooDeep goal read old new from) place
 IsFault goal text tokens read old new from fault.NoMemory = AreFew old new from (length tokens)
-
--- the fault that a refusal is, in a text
-abbrev pub fault_of : List ℕ → List Token → Refusal → SyntaxFault
-fault_of text tokens (refusal.Unexpected at) = fault.Unexpected (place_at text tokens at)
-fault_of text tokens (refusal.TooDeep at) = fault.TooDeep (place_at text tokens at)
-fault_of text tokens refusal.NoMemory = fault.NoMemory

@@ -7,11 +7,11 @@ use Rattle.shade_ast.specs.Needs.{expr_needs}
 use Rattle.shade_ast.specs.Nodes.{expr_nodes, CountFrom}
 use Rattle.shade_ast.specs.Places.{IsStop, IsOnly}
 use Rattle.shade_parse_expr.specs.declared.goal.Goal.{Goal}
-use Rattle.shade_parse_expr.specs.declared.part.Part.{Part}
-use Rattle.shade_parse_expr.specs.declared.part.Fault.{Fault}
-use Rattle.shade_parse_expr.specs.declared.part.Fault.TheVariants as fault
-use Rattle.shade_parse_expr.specs.declared.fault.Refusal.{Refusal}
-use Rattle.shade_parse_expr.specs.declared.fault.Refusal.TheVariants as refusal
+use Rattle.shade_cursor.specs.declared.part.Part.{Part}
+use Rattle.shade_cursor.specs.declared.part.Fault.{Fault}
+use Rattle.shade_cursor.specs.declared.part.Fault.TheVariants as fault
+use Rattle.shade_cursor.specs.declared.fault.Refusal.{Refusal}
+use Rattle.shade_cursor.specs.declared.fault.Refusal.TheVariants as refusal
 use Rattle.shade_parse_expr.specs.Answers.{production, AreFew}
 
 -- a phrase, where depths are not counted

@@ -1,10 +1,5 @@
-pub mod Shown
-pub mod Operators
 pub mod Rests
 pub mod Parts
-pub mod Passes
-pub mod Depths
-pub mod Walks
 pub mod Answers
 pub mod Cuts
 pub mod Once

@@ -10,13 +10,11 @@ use Rattle.shade_ast.specs.Shapes.{ExprShape, infixed, call, place_of}
 use Rattle.shade_ast.specs.Shaped.{expr_shapes}
 use Rattle.shade_ast.specs.Repeats.{MaybeListed}
 use Rattle.shade_ast.specs.Expressions.{Expression, Relational, Shift, Unary}
-use Rattle.shade_ast.proofs.Stages.{After, Ends}
-use Rattle.shade_ast.proofs.Tails.{Tail}
-use Rattle.shade_ast.proofs.Lists.{Closed}
-use Rattle.shade_ast.proofs.LeftLaws.{OrStep, AndStep, BitAndStep, BitOrStep, BitXorStep}
-use Rattle.shade_parse_expr.specs.declared.operators.Joint.{Joint}
-use Rattle.shade_parse_expr.specs.declared.operators.Joint.TheVariants as joint
-use Rattle.shade_parse_expr.specs.Operators.{relation_of, Joins}
+use Rattle.shade_ast.specs.Chains.{After, Ends, Tail, Closed}
+use Rattle.shade_ast.specs.Steps.{OrStep, AndStep, BitAndStep, BitOrStep, BitXorStep}
+use Rattle.shade_cursor.specs.declared.operators.Joint.{Joint}
+use Rattle.shade_cursor.specs.declared.operators.Joint.TheVariants as joint
+use Rattle.shade_cursor.specs.Operators.{relation_of, Joins}
 
 -- not two expressions and an operator between them
 abbrev pub is_bare : ExprShape → Bool

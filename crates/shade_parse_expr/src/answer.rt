@@ -5,10 +5,10 @@ ghost use Rattle.shade_ast.specs.Lexemes.{lexemes};
 ghost use Rattle.shade_ast.specs.Names.{Grows};
 ghost use Rattle.shade_parse_expr.specs.Answers.{IsFault, IsPhrase};
 
-use crate::fault::{SyntaxFault, fault_of};
 use crate::goal::{Goal, phrase};
-use crate::pieces::pieces_of;
 use shade_ast::{Expr, Names};
+use shade_cursor::fault::{SyntaxFault, fault_of};
+use shade_cursor::pieces::pieces_of;
 use shade_lex::{TemplatePairs, Tokens};
 use std::alloc::Global;
 
@@ -33,7 +33,8 @@ pub fn expression(
     requires within { from ≤ length tokens.now.tokens }
     requires node { node + 16 * length tokens.now.tokens < 2 ^ 32 }
     requires names { length names.old + length tokens.now.tokens < 2 ^ 32 - 1 }
-    ensures answer { MatchResult result (λ p. IsPhrase goal (lexemes tokens.now.text pairs.now tokens.now.tokens) names.old names.new from node p.0 p.1 p.2) (IsFault goal tokens.now.text tokens.now.tokens (lexemes tokens.now.text pairs.now tokens.now.tokens) names.old names.new from) }
+    ensures answer { MatchResult result (λ p. IsPhrase goal (lexemes tokens.now.text pairs.now tokens.now.tokens) names.old names.new from node p.0 p.1 p.2)
+        (IsFault goal tokens.now.text tokens.now.tokens (lexemes tokens.now.text pairs.now tokens.now.tokens) names.old names.new from) }
     ensures grows { Grows names.old names.new }
 {
     let Ok(pieces) = pieces_of(alloc, tokens, pairs) else {

@@ -4,14 +4,14 @@ ghost use Rattle.std.specs.Prelude.{◌≡◌, ◌+◌, ◌<◌, ◌≤◌, ◌^
 ghost use Rattle.shade_ast.specs.Names.{Grows};
 ghost use Rattle.shade_parse_expr.specs.Answers.{IsPhrase, IsRefused};
 ghost use Rattle.shade_parse_expr.specs.Cuts.{cut_of, uncut_of, IsRead, IsUnread};
-ghost use Rattle.shade_parse_expr.specs.Shown.{lexemes};
+ghost use Rattle.shade_cursor.specs.Shown.{lexemes};
 
-use crate::depths::first_deep;
-use crate::fault::Refusal;
 use crate::parse;
-use crate::part::{Fault, Part};
-use crate::piece::Piece;
 use shade_ast::Names;
+use shade_cursor::depths::first_deep;
+use shade_cursor::fault::Refusal;
+use shade_cursor::part::{Fault, Part};
+use shade_cursor::piece::Piece;
 use std::alloc::Global;
 
 /// What is to be read: a whole expression, a type, a left side, or a call alone.
@@ -35,7 +35,8 @@ pub fn phrase(
     requires within { from ≤ length pieces.now }
     requires node { node + length pieces.now < 2 ^ 32 + from }
     requires names { length names.old + length pieces.now < 2 ^ 32 + from }
-    ensures answer { MatchResult result (λ p. IsPhrase goal (lexemes pieces.now) names.old names.new from node p.expr p.end p.node) (IsRefused goal (lexemes pieces.now) names.old names.new from) }
+    ensures answer { MatchResult result (λ p. IsPhrase goal (lexemes pieces.now) names.old names.new from node p.expr p.end p.node)
+        (IsRefused goal (lexemes pieces.now) names.old names.new from) }
     ensures grows { Grows names.old names.new }
 {
     let Ok(deep) = first_deep(alloc, pieces, from) else {
@@ -62,7 +63,8 @@ fn read(
     requires within { from ≤ length pieces.now }
     requires node { node + length pieces.now < 2 ^ 32 + from }
     requires names { length names.old + length pieces.now < 2 ^ 32 + from }
-    ensures answer { MatchResult result (IsRead goal (lexemes pieces.now) names.old names.new from node) (IsUnread goal (lexemes pieces.now) names.old names.new from) }
+    ensures answer { MatchResult result (IsRead goal (lexemes pieces.now) names.old names.new from node)
+        (IsUnread goal (lexemes pieces.now) names.old names.new from) }
     ensures grows { Grows names.old names.new }
 {
     match goal {

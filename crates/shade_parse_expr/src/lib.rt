@@ -2,17 +2,10 @@
 #![tactic(auto)]
 
 mod answer;
-pub mod builds;
-pub mod depths;
-pub mod fault;
 mod goal;
 pub mod law;
-mod operators;
 pub mod parse;
-pub mod part;
-pub mod piece;
-pub mod pieces;
 
 pub use answer::expression;
-pub use fault::SyntaxFault;
 pub use goal::Goal;
+pub use shade_cursor::SyntaxFault;

@@ -1,6 +1,6 @@
 //! Expressions, types, left sides and calls, without limits of depth.
 
-ghost use Rattle.std.specs.Prelude.{◌≡◌, ◌+◌, ◌<◌, ◌≤◌, ◌^◌, length, slice_get, IsTrue, IfOk, MatchResult, []};
+ghost use Rattle.std.specs.Prelude.{◌≡◌, ◌+◌, ◌<◌, ◌≤◌, ◌^◌, length, slice_get, IsTrue, IfOk, []};
 ghost use Rattle.shade_ast.specs.declared.lexeme.Sign.TheVariants as sign_;
 ghost use Rattle.shade_ast.specs.Lexemes.{Mark};
 ghost use Rattle.shade_ast.specs.Names.{Grows};
@@ -8,24 +8,26 @@ ghost use Rattle.shade_ast.specs.Needs.{expr_needs};
 ghost use Rattle.shade_ast.specs.Nodes.{expr_nodes};
 ghost use Rattle.shade_ast.specs.Repeats.{Listed, MaybeListed};
 ghost use Rattle.shade_ast.specs.Shaped.{expr_shape};
-ghost use Rattle.shade_ast.specs.Expressions.{Additive, Call, Expression, LeftSide, LeftSingular, Multiplicative, Primary, Relational, Shift, Singular, TypeName, Unary};
-ghost use Rattle.shade_ast.proofs.LeftLaws.{AccessStep, IndexStep, LeftFirst, MemberStep};
-ghost use Rattle.shade_ast.proofs.Lists.{Closed};
-ghost use Rattle.shade_ast.proofs.Tails.{Tail};
-ghost use Rattle.shade_parse_expr.specs.Operators.{Closing, Joins, NoLeaf, StandsWord};
-ghost use Rattle.shade_parse_expr.specs.Parts.{Faults, ReadsList, ReadsTree};
+ghost use Rattle.shade_ast.specs.Expressions.{Additive, Call, Expression, LeftSide, LeftSingular, Multiplicative};
+ghost use Rattle.shade_ast.specs.Expressions.{Primary, Relational, Shift, Singular, TypeName, Unary};
+ghost use Rattle.shade_ast.specs.Steps.{AccessStep, IndexStep, LeftFirst, MemberStep};
+ghost use Rattle.shade_ast.specs.Chains.{Closed, Tail};
+ghost use Rattle.shade_cursor.specs.Operators.{Closing, Joins, NoLeaf, StandsWord};
+ghost use Rattle.shade_parse_expr.specs.Parts.{Parses, ParsesList, ParsesOn};
 ghost use Rattle.shade_parse_expr.specs.Rests.{Called, Compared, JoinPart, Joining, is_bare, joint_rank};
-ghost use Rattle.shade_parse_expr.specs.Shown.{lexemes};
+ghost use Rattle.shade_cursor.specs.Shown.{lexemes};
 
-use crate::builds::{call, index, infix, leaf, member, number, paren, prefix, push, template};
-use crate::operators::{
+use shade_ast::{Expr, ExprKind, Keyword, Names, Sign};
+use shade_base::Place;
+use shade_cursor::builds::{
+    call, index, infix, leaf, member, number, paren, prefix, push, refuse, template,
+};
+use shade_cursor::operators::{
     Joint, comparison_at, factor_at, infix_of, joins, joint_at, left_prefix_at, prefix_at,
     shift_at, sign_of, term_at,
 };
-use crate::part::{Fault, Listing, Part};
-use crate::piece::{Piece, key_at, mark_at, number_at, word_at};
-use shade_ast::{Expr, ExprKind, Keyword, Names, Sign};
-use shade_base::Place;
+use shade_cursor::part::{Fault, Listing, Part};
+use shade_cursor::piece::{Piece, key_at, mark_at, number_at, word_at};
 use sqlite_items::Items;
 use std::alloc::Global;
 
@@ -43,7 +45,7 @@ pub fn expression(
     requires within { from ≤ length pieces.now }
     requires node { node + length pieces.now < 2 ^ 32 + from }
     requires names { length names.old + length pieces.now < 2 ^ 32 + from }
-    ensures tree { MatchResult result (λ p. ReadsTree Expression 7 (lexemes pieces.now) names.new [] from node p) (λ f. Faults Expression 7 (lexemes pieces.now) names.old names.new from f) }
+    ensures tree { Parses Expression 7 (lexemes pieces.now) names.old names.new [] from node result }
     ensures grows { Grows names.old names.new }
     ensures further { IfOk result (λ p. from < p.end) }
     ensures within { IfOk result (λ p. p.end ≤ length pieces.now) }
@@ -74,7 +76,7 @@ fn joined(
     requires names { length names.old + length pieces.now < 2 ^ 32 + first.end }
     requires known { expr_needs first.expr ≤ length names.old }
     requires bare { first.bare ≡ is_bare (expr_shape names.old first.expr) }
-    ensures tree { MatchResult result (λ p. ReadsTree (Joining joint (expr_shape names.old first.expr)) 7 (lexemes pieces.now) names.new (expr_nodes first.expr) (first.end) first.node p) (λ f. Faults (Joining joint (expr_shape names.old first.expr)) 7 (lexemes pieces.now) names.old names.new (first.end) f) }
+    ensures tree { ParsesOn (Joining joint) 7 (lexemes pieces.now) names.old names.new first first.end result }
     ensures grows { Grows names.old names.new }
     ensures further { IfOk result (λ p. first.end ≤ p.end) }
     ensures within { IfOk result (λ p. p.end ≤ length pieces.now) }
@@ -83,7 +85,10 @@ fn joined(
 {
     let mut left = first;
     'joints: while let Some(place) = mark_at(pieces, left.end, sign_of(joint)) {
-        let right = join_part(alloc, pieces, names, joint, left.end + 1, left.node)?;
+        let right = match join_part(alloc, pieces, names, joint, left.end + 1, left.node) {
+            Ok(right) => right,
+            Err(fault) => return refuse(fault, left),
+        };
         left = infix(alloc, left, infix_of(joint), place, right)?;
     }
     Ok(left)
@@ -102,7 +107,7 @@ fn join_part(
     requires within { from ≤ length pieces.now }
     requires node { node + length pieces.now < 2 ^ 32 + from }
     requires names { length names.old + length pieces.now < 2 ^ 32 + from }
-    ensures tree { MatchResult result (λ p. ReadsTree (JoinPart joint) (joint_rank joint) (lexemes pieces.now) names.new [] from node p) (λ f. Faults (JoinPart joint) (joint_rank joint) (lexemes pieces.now) names.old names.new from f) }
+    ensures tree { Parses (JoinPart joint) (joint_rank joint) (lexemes pieces.now) names.old names.new [] from node result }
     ensures grows { Grows names.old names.new }
     ensures further { IfOk result (λ p. from < p.end) }
     ensures within { IfOk result (λ p. p.end ≤ length pieces.now) }
@@ -127,7 +132,7 @@ fn relational(
     requires within { from ≤ length pieces.now }
     requires node { node + length pieces.now < 2 ^ 32 + from }
     requires names { length names.old + length pieces.now < 2 ^ 32 + from }
-    ensures tree { MatchResult result (λ p. ReadsTree Relational 6 (lexemes pieces.now) names.new [] from node p) (λ f. Faults Relational 6 (lexemes pieces.now) names.old names.new from f) }
+    ensures tree { Parses Relational 6 (lexemes pieces.now) names.old names.new [] from node result }
     ensures grows { Grows names.old names.new }
     ensures further { IfOk result (λ p. from < p.end) }
     ensures within { IfOk result (λ p. p.end ≤ length pieces.now) }
@@ -138,7 +143,10 @@ fn relational(
     let Some((operator, place, next)) = shift_at(pieces, left.end, left.bare) else {
         return compared(alloc, pieces, names, left);
     };
-    let right = unary(alloc, pieces, names, next, left.node)?;
+    let right = match unary(alloc, pieces, names, next, left.node) {
+        Ok(right) => right,
+        Err(fault) => return refuse(fault, left),
+    };
     let left = infix(alloc, left, operator, place, right)?;
     compared(alloc, pieces, names, left)
 }
@@ -151,7 +159,7 @@ fn compared(alloc: Global, pieces: &[Piece], names: &mut Names, left: Part) -> R
     requires names { length names.old + length pieces.now < 2 ^ 32 + left.end }
     requires known { expr_needs left.expr ≤ length names.old }
     requires bare { left.bare ≡ is_bare (expr_shape names.old left.expr) }
-    ensures tree { MatchResult result (λ p. ReadsTree (Compared (expr_shape names.old left.expr)) 6 (lexemes pieces.now) names.new (expr_nodes left.expr) (left.end) left.node p) (λ f. Faults (Compared (expr_shape names.old left.expr)) 6 (lexemes pieces.now) names.old names.new (left.end) f) }
+    ensures tree { ParsesOn Compared 6 (lexemes pieces.now) names.old names.new left left.end result }
     ensures grows { Grows names.old names.new }
     ensures further { IfOk result (λ p. left.end ≤ p.end) }
     ensures within { IfOk result (λ p. p.end ≤ length pieces.now) }
@@ -161,7 +169,10 @@ fn compared(alloc: Global, pieces: &[Piece], names: &mut Names, left: Part) -> R
     let Some((operator, place, next)) = comparison_at(pieces, left.end) else {
         return Ok(left);
     };
-    let right = shift(alloc, pieces, names, next, left.node)?;
+    let right = match shift(alloc, pieces, names, next, left.node) {
+        Ok(right) => right,
+        Err(fault) => return refuse(fault, left),
+    };
     infix(alloc, left, operator, place, right)
 }
 
@@ -177,7 +188,7 @@ fn shift(
     requires within { from ≤ length pieces.now }
     requires node { node + length pieces.now < 2 ^ 32 + from }
     requires names { length names.old + length pieces.now < 2 ^ 32 + from }
-    ensures tree { MatchResult result (λ p. ReadsTree Shift 6 (lexemes pieces.now) names.new [] from node p) (λ f. Faults Shift 6 (lexemes pieces.now) names.old names.new from f) }
+    ensures tree { Parses Shift 6 (lexemes pieces.now) names.old names.new [] from node result }
     ensures grows { Grows names.old names.new }
     ensures further { IfOk result (λ p. from < p.end) }
     ensures within { IfOk result (λ p. p.end ≤ length pieces.now) }
@@ -192,9 +203,12 @@ fn shift(
         if mark_at(pieces, left.end, Sign::Greater).is_none() {
             return Ok(left);
         }
-        return Err(Fault::Unexpected(left.end + 1));
+        return refuse(Fault::Unexpected(left.end + 1), left);
     };
-    let right = unary(alloc, pieces, names, next, left.node)?;
+    let right = match unary(alloc, pieces, names, next, left.node) {
+        Ok(right) => right,
+        Err(fault) => return refuse(fault, left),
+    };
     infix(alloc, left, operator, place, right)
 }
 
@@ -210,7 +224,7 @@ fn additive(
     requires within { from ≤ length pieces.now }
     requires node { node + length pieces.now < 2 ^ 32 + from }
     requires names { length names.old + length pieces.now < 2 ^ 32 + from }
-    ensures tree { MatchResult result (λ p. ReadsTree Additive 4 (lexemes pieces.now) names.new [] from node p) (λ f. Faults Additive 4 (lexemes pieces.now) names.old names.new from f) }
+    ensures tree { Parses Additive 4 (lexemes pieces.now) names.old names.new [] from node result }
     ensures grows { Grows names.old names.new }
     ensures further { IfOk result (λ p. from < p.end) }
     ensures within { IfOk result (λ p. p.end ≤ length pieces.now) }
@@ -219,7 +233,10 @@ fn additive(
 {
     let mut left = multiplicative(alloc, pieces, names, from, node)?;
     'terms: while let Some((operator, place)) = term_at(pieces, left.end) {
-        let right = multiplicative(alloc, pieces, names, left.end + 1, left.node)?;
+        let right = match multiplicative(alloc, pieces, names, left.end + 1, left.node) {
+            Ok(right) => right,
+            Err(fault) => return refuse(fault, left),
+        };
         left = infix(alloc, left, operator, place, right)?;
     }
     Ok(left)
@@ -237,7 +254,7 @@ fn multiplicative(
     requires within { from ≤ length pieces.now }
     requires node { node + length pieces.now < 2 ^ 32 + from }
     requires names { length names.old + length pieces.now < 2 ^ 32 + from }
-    ensures tree { MatchResult result (λ p. ReadsTree Multiplicative 3 (lexemes pieces.now) names.new [] from node p) (λ f. Faults Multiplicative 3 (lexemes pieces.now) names.old names.new from f) }
+    ensures tree { Parses Multiplicative 3 (lexemes pieces.now) names.old names.new [] from node result }
     ensures grows { Grows names.old names.new }
     ensures further { IfOk result (λ p. from < p.end) }
     ensures within { IfOk result (λ p. p.end ≤ length pieces.now) }
@@ -246,7 +263,10 @@ fn multiplicative(
 {
     let mut left = unary(alloc, pieces, names, from, node)?;
     'factors: while let Some((operator, place)) = factor_at(pieces, left.end) {
-        let right = unary(alloc, pieces, names, left.end + 1, left.node)?;
+        let right = match unary(alloc, pieces, names, left.end + 1, left.node) {
+            Ok(right) => right,
+            Err(fault) => return refuse(fault, left),
+        };
         left = infix(alloc, left, operator, place, right)?;
     }
     Ok(left)
@@ -264,7 +284,7 @@ fn unary(
     requires within { from ≤ length pieces.now }
     requires node { node + length pieces.now < 2 ^ 32 + from }
     requires names { length names.old + length pieces.now < 2 ^ 32 + from }
-    ensures tree { MatchResult result (λ p. ReadsTree Unary 2 (lexemes pieces.now) names.new [] from node p) (λ f. Faults Unary 2 (lexemes pieces.now) names.old names.new from f) }
+    ensures tree { Parses Unary 2 (lexemes pieces.now) names.old names.new [] from node result }
     ensures grows { Grows names.old names.new }
     ensures further { IfOk result (λ p. from < p.end) }
     ensures within { IfOk result (λ p. p.end ≤ length pieces.now) }
@@ -290,7 +310,7 @@ fn singular(
     requires within { from ≤ length pieces.now }
     requires node { node + length pieces.now < 2 ^ 32 + from }
     requires names { length names.old + length pieces.now < 2 ^ 32 + from }
-    ensures tree { MatchResult result (λ p. ReadsTree Singular 2 (lexemes pieces.now) names.new [] from node p) (λ f. Faults Singular 2 (lexemes pieces.now) names.old names.new from f) }
+    ensures tree { Parses Singular 2 (lexemes pieces.now) names.old names.new [] from node result }
     ensures grows { Grows names.old names.new }
     ensures further { IfOk result (λ p. from < p.end) }
     ensures within { IfOk result (λ p. p.end ≤ length pieces.now) }
@@ -309,7 +329,7 @@ fn accesses(alloc: Global, pieces: &[Piece], names: &mut Names, first: Part) -> 
     requires names { length names.old + length pieces.now < 2 ^ 32 + first.end }
     requires known { expr_needs first.expr ≤ length names.old }
     requires bare { first.bare ≡ is_bare (expr_shape names.old first.expr) }
-    ensures tree { MatchResult result (λ p. ReadsTree (Tail AccessStep (expr_shape names.old first.expr)) 2 (lexemes pieces.now) names.new (expr_nodes first.expr) (first.end) first.node p) (λ f. Faults (Tail AccessStep (expr_shape names.old first.expr)) 2 (lexemes pieces.now) names.old names.new (first.end) f) }
+    ensures tree { ParsesOn (Tail AccessStep) 2 (lexemes pieces.now) names.old names.new first first.end result }
     ensures grows { Grows names.old names.new }
     ensures further { IfOk result (λ p. first.end ≤ p.end) }
     ensures within { IfOk result (λ p. p.end ≤ length pieces.now) }
@@ -341,7 +361,7 @@ fn by_name(
     requires names { length names.old + length pieces.now < 2 ^ 32 + whole.end }
     requires known { expr_needs whole.expr ≤ length names.old }
     requires bare { whole.bare ≡ is_bare (expr_shape names.old whole.expr) }
-    ensures tree { MatchResult result (λ p. ReadsTree (MemberStep (expr_shape names.old whole.expr) dot) 1 (lexemes pieces.now) names.new (expr_nodes whole.expr) (whole.end + 1) whole.node p) (λ f. Faults (MemberStep (expr_shape names.old whole.expr) dot) 1 (lexemes pieces.now) names.old names.new (whole.end + 1) f) }
+    ensures tree { ParsesOn (λ l. MemberStep l dot) 1 (lexemes pieces.now) names.old names.new whole (whole.end + 1) result }
     ensures grows { Grows names.old names.new }
     ensures further { IfOk result (λ p. whole.end + 1 < p.end) }
     ensures within { IfOk result (λ p. p.end ≤ length pieces.now) }
@@ -349,9 +369,12 @@ fn by_name(
     ensures names { IfOk result (λ p. length names.new + whole.end ≤ length names.old + p.end) }
 {
     let Some((text, place)) = word_at(pieces, whole.end + 1) else {
-        return Err(Fault::Unexpected(whole.end + 1));
+        return refuse(Fault::Unexpected(whole.end + 1), whole);
     };
-    let name = number(names, text)?;
+    let name = match number(names, text) {
+        Ok(name) => name,
+        Err(fault) => return refuse(fault, whole),
+    };
     member(alloc, whole, dot, place, name)
 }
 
@@ -369,16 +392,19 @@ fn by_index(
     requires names { length names.old + length pieces.now < 2 ^ 32 + whole.end }
     requires known { expr_needs whole.expr ≤ length names.old }
     requires bare { whole.bare ≡ is_bare (expr_shape names.old whole.expr) }
-    ensures tree { MatchResult result (λ p. ReadsTree (IndexStep (expr_shape names.old whole.expr) bracket) 1 (lexemes pieces.now) names.new (expr_nodes whole.expr) (whole.end + 1) whole.node p) (λ f. Faults (IndexStep (expr_shape names.old whole.expr) bracket) 1 (lexemes pieces.now) names.old names.new (whole.end + 1) f) }
+    ensures tree { ParsesOn (λ l. IndexStep l bracket) 1 (lexemes pieces.now) names.old names.new whole (whole.end + 1) result }
     ensures grows { Grows names.old names.new }
     ensures further { IfOk result (λ p. whole.end + 1 < p.end) }
     ensures within { IfOk result (λ p. p.end ≤ length pieces.now) }
     ensures node { IfOk result (λ p. p.node + whole.end ≤ whole.node + p.end) }
     ensures names { IfOk result (λ p. length names.new + whole.end ≤ length names.old + p.end) }
 {
-    let at = expression(alloc, pieces, names, whole.end + 1, whole.node)?;
+    let at = match expression(alloc, pieces, names, whole.end + 1, whole.node) {
+        Ok(at) => at,
+        Err(fault) => return refuse(fault, whole),
+    };
     if mark_at(pieces, at.end, Sign::CloseBracket).is_none() {
-        return Err(Fault::Unexpected(at.end));
+        return refuse(Fault::Unexpected(at.end), (whole, at));
     }
     index(alloc, whole, bracket, at)
 }
@@ -395,7 +421,7 @@ fn primary(
     requires within { from ≤ length pieces.now }
     requires node { node + length pieces.now < 2 ^ 32 + from }
     requires names { length names.old + length pieces.now < 2 ^ 32 + from }
-    ensures tree { MatchResult result (λ p. ReadsTree Primary 1 (lexemes pieces.now) names.new [] from node p) (λ f. Faults Primary 1 (lexemes pieces.now) names.old names.new from f) }
+    ensures tree { Parses Primary 1 (lexemes pieces.now) names.old names.new [] from node result }
     ensures grows { Grows names.old names.new }
     ensures further { IfOk result (λ p. from < p.end) }
     ensures within { IfOk result (λ p. p.end ≤ length pieces.now) }
@@ -430,7 +456,7 @@ fn in_parens(
     requires node { node + length pieces.now < 2 ^ 32 + from }
     requires names { length names.old + length pieces.now < 2 ^ 32 + from }
     requires none { NoLeaf (lexemes pieces.now) from }
-    ensures tree { MatchResult result (λ p. ReadsTree Primary 1 (lexemes pieces.now) names.new [] from node p) (λ f. Faults Primary 1 (lexemes pieces.now) names.old names.new from f) }
+    ensures tree { Parses Primary 1 (lexemes pieces.now) names.old names.new [] from node result }
     ensures grows { Grows names.old names.new }
     ensures further { IfOk result (λ p. from < p.end) }
     ensures within { IfOk result (λ p. p.end ≤ length pieces.now) }
@@ -442,7 +468,7 @@ fn in_parens(
     };
     let inner = expression(alloc, pieces, names, from + 1, node)?;
     if mark_at(pieces, inner.end, Sign::Close).is_none() {
-        return Err(Fault::Unexpected(inner.end));
+        return refuse(Fault::Unexpected(inner.end), inner);
     }
     paren(alloc, place, inner)
 }
@@ -460,7 +486,7 @@ fn call_or_type(
     requires node { node + length pieces.now < 2 ^ 32 + from }
     requires names { length names.old + length pieces.now < 2 ^ 32 + from }
     requires word { StandsWord (lexemes pieces.now) from }
-    ensures tree { MatchResult result (λ p. ReadsTree Primary 1 (lexemes pieces.now) names.new [] from node p) (λ f. Faults Primary 1 (lexemes pieces.now) names.old names.new from f) }
+    ensures tree { Parses Primary 1 (lexemes pieces.now) names.old names.new [] from node result }
     ensures grows { Grows names.old names.new }
     ensures further { IfOk result (λ p. from < p.end) }
     ensures within { IfOk result (λ p. p.end ≤ length pieces.now) }
@@ -486,7 +512,7 @@ pub fn call_only(
     requires within { from ≤ length pieces.now }
     requires node { node + length pieces.now < 2 ^ 32 + from }
     requires names { length names.old + length pieces.now < 2 ^ 32 + from }
-    ensures tree { MatchResult result (λ p. ReadsTree Call 1 (lexemes pieces.now) names.new [] from node p) (λ f. Faults Call 1 (lexemes pieces.now) names.old names.new from f) }
+    ensures tree { Parses Call 1 (lexemes pieces.now) names.old names.new [] from node result }
     ensures grows { Grows names.old names.new }
     ensures further { IfOk result (λ p. from < p.end) }
     ensures within { IfOk result (λ p. p.end ≤ length pieces.now) }
@@ -495,7 +521,7 @@ pub fn call_only(
 {
     let callee = type_name(alloc, pieces, names, from, node)?;
     if mark_at(pieces, callee.end, Sign::Open).is_none() {
-        return Err(Fault::Unexpected(callee.end));
+        return refuse(Fault::Unexpected(callee.end), callee);
     }
     called(alloc, pieces, names, callee)
 }
@@ -508,14 +534,17 @@ fn called(alloc: Global, pieces: &[Piece], names: &mut Names, callee: Part) -> R
     requires names { length names.old + length pieces.now < 2 ^ 32 + callee.end }
     requires known { expr_needs callee.expr ≤ length names.old }
     requires bare { callee.bare ≡ is_bare (expr_shape names.old callee.expr) }
-    ensures tree { MatchResult result (λ p. ReadsTree (Called (expr_shape names.old callee.expr)) 1 (lexemes pieces.now) names.new (expr_nodes callee.expr) (callee.end + 1) callee.node p) (λ f. Faults (Called (expr_shape names.old callee.expr)) 1 (lexemes pieces.now) names.old names.new (callee.end + 1) f) }
+    ensures tree { ParsesOn Called 1 (lexemes pieces.now) names.old names.new callee (callee.end + 1) result }
     ensures grows { Grows names.old names.new }
     ensures further { IfOk result (λ p. callee.end + 1 < p.end) }
     ensures within { IfOk result (λ p. p.end ≤ length pieces.now) }
     ensures node { IfOk result (λ p. p.node + callee.end ≤ callee.node + p.end) }
     ensures names { IfOk result (λ p. length names.new + callee.end ≤ length names.old + p.end) }
 {
-    let list = arguments(alloc, pieces, names, callee.end + 1, callee.node)?;
+    let list = match arguments(alloc, pieces, names, callee.end + 1, callee.node) {
+        Ok(list) => list,
+        Err(fault) => return refuse(fault, callee),
+    };
     call(alloc, callee, list)
 }
 
@@ -532,7 +561,7 @@ pub fn type_name(
     requires within { from ≤ length pieces.now }
     requires node { node + length pieces.now < 2 ^ 32 + from }
     requires names { length names.old + length pieces.now < 2 ^ 32 + from }
-    ensures tree { MatchResult result (λ p. ReadsTree TypeName 0 (lexemes pieces.now) names.new [] from node p) (λ f. Faults TypeName 0 (lexemes pieces.now) names.old names.new from f) }
+    ensures tree { Parses TypeName 0 (lexemes pieces.now) names.old names.new [] from node result }
     ensures grows { Grows names.old names.new }
     ensures further { IfOk result (λ p. from < p.end) }
     ensures within { IfOk result (λ p. p.end ≤ length pieces.now) }
@@ -562,7 +591,7 @@ pub fn arguments(
     requires within { from ≤ length pieces.now }
     requires node { node + length pieces.now < 2 ^ 32 + from }
     requires names { length names.old + length pieces.now < 2 ^ 32 + from }
-    ensures tree { MatchResult result (λ p. ReadsList (Closed (MaybeListed Expression) (Mark sign_.Close)) 0 (lexemes pieces.now) names.new from node p) (λ f. Faults (Closed (MaybeListed Expression) (Mark sign_.Close)) 0 (lexemes pieces.now) names.old names.new from f) }
+    ensures tree { ParsesList (Closed (MaybeListed Expression) (Mark sign_.Close)) 0 (lexemes pieces.now) names.old names.new from node result }
     ensures grows { Grows names.old names.new }
     ensures further { IfOk result (λ p. from < p.end) }
     ensures within { IfOk result (λ p. p.end ≤ length pieces.now) }
@@ -594,7 +623,7 @@ fn list(
     requires node { start + length pieces.now < 2 ^ 32 + from }
     requires names { length names.old + length pieces.now < 2 ^ 32 + from }
     requires closes { Closing closer }
-    ensures tree { MatchResult result (λ p. ReadsList (Closed (Listed Expression) (Mark closer)) 0 (lexemes pieces.now) names.new from start p) (λ f. Faults (Closed (Listed Expression) (Mark closer)) 0 (lexemes pieces.now) names.old names.new from f) }
+    ensures tree { ParsesList (Closed (Listed Expression) (Mark closer)) 0 (lexemes pieces.now) names.old names.new from start result }
     ensures grows { Grows names.old names.new }
     ensures further { IfOk result (λ p. from < p.end) }
     ensures within { IfOk result (λ p. p.end ≤ length pieces.now) }
@@ -647,7 +676,7 @@ pub fn left_side(
     requires within { from ≤ length pieces.now }
     requires node { node + length pieces.now < 2 ^ 32 + from }
     requires names { length names.old + length pieces.now < 2 ^ 32 + from }
-    ensures tree { MatchResult result (λ p. ReadsTree LeftSide 2 (lexemes pieces.now) names.new [] from node p) (λ f. Faults LeftSide 2 (lexemes pieces.now) names.old names.new from f) }
+    ensures tree { Parses LeftSide 2 (lexemes pieces.now) names.old names.new [] from node result }
     ensures grows { Grows names.old names.new }
     ensures further { IfOk result (λ p. from < p.end) }
     ensures within { IfOk result (λ p. p.end ≤ length pieces.now) }
@@ -673,7 +702,7 @@ fn left_singular(
     requires within { from ≤ length pieces.now }
     requires node { node + length pieces.now < 2 ^ 32 + from }
     requires names { length names.old + length pieces.now < 2 ^ 32 + from }
-    ensures tree { MatchResult result (λ p. ReadsTree LeftSingular 2 (lexemes pieces.now) names.new [] from node p) (λ f. Faults LeftSingular 2 (lexemes pieces.now) names.old names.new from f) }
+    ensures tree { Parses LeftSingular 2 (lexemes pieces.now) names.old names.new [] from node result }
     ensures grows { Grows names.old names.new }
     ensures further { IfOk result (λ p. from < p.end) }
     ensures within { IfOk result (λ p. p.end ≤ length pieces.now) }
@@ -696,7 +725,7 @@ fn left_first(
     requires within { from ≤ length pieces.now }
     requires node { node + length pieces.now < 2 ^ 32 + from }
     requires names { length names.old + length pieces.now < 2 ^ 32 + from }
-    ensures tree { MatchResult result (λ p. ReadsTree LeftFirst 1 (lexemes pieces.now) names.new [] from node p) (λ f. Faults LeftFirst 1 (lexemes pieces.now) names.old names.new from f) }
+    ensures tree { Parses LeftFirst 1 (lexemes pieces.now) names.old names.new [] from node result }
     ensures grows { Grows names.old names.new }
     ensures further { IfOk result (λ p. from < p.end) }
     ensures within { IfOk result (λ p. p.end ≤ length pieces.now) }
@@ -712,7 +741,7 @@ fn left_first(
     };
     let inner = left_side(alloc, pieces, names, from + 1, node)?;
     if mark_at(pieces, inner.end, Sign::Close).is_none() {
-        return Err(Fault::Unexpected(inner.end));
+        return refuse(Fault::Unexpected(inner.end), inner);
     }
     paren(alloc, place, inner)
 }

@@ -8,8 +8,8 @@ use Rattle.shade_lex.specs.Tokens.{AreTokens, IsFaultOf}
 use Rattle.shade_lex.specs.Templates.{AreTemplates}
 use Rattle.shade_ast.specs.declared.tree.Tree.{Tree}
 use Rattle.shade_ast.specs.Lexemes.{lexemes}
-use Rattle.shade_parse_expr.specs.declared.fault.SyntaxFault.{SyntaxFault}
-use Rattle.shade_parse_expr.specs.declared.fault.SyntaxFault.TheVariants as syntax_fault
+use Rattle.shade_cursor.specs.declared.fault.SyntaxFault.{SyntaxFault}
+use Rattle.shade_cursor.specs.declared.fault.SyntaxFault.TheVariants as syntax_fault
 use Rattle.shade_parse.specs.Answers.{IsTree, IsFault}
 use Rattle.shade_report.specs.declared.refusal.Refusal.{Refusal}
 use Rattle.shade_top.specs.Report.{IsReadingOf, lex_refusal, syntax_refusal}

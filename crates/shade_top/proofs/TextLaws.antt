@@ -9,7 +9,7 @@ use Rattle.shade_lex.specs.declared.piece.Problem.{Problem}
 use Rattle.shade_lex.specs.Tokens.{IsProblemOf, IsReadOnce}
 use Rattle.shade_lex.specs.Templates.{AreTemplates, HaveOneReading}
 use Rattle.shade_ast.specs.Lexemes.{Lexeme, lexemes}
-use Rattle.shade_parse_expr.specs.Answers.{IsPlaceOf, place_at}
+use Rattle.shade_cursor.specs.TokenPlaces.{IsPlaceOf, place_at}
 use Rattle.shade_ast.specs.declared.tree.Tree.{Tree}
 use Rattle.shade_parse.specs.Answers.{IsTree, IsUnexpected, IsTooDeep}
 use Rattle.shade_parse.specs.Once.{IsParsedOnce}

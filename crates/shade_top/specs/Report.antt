@@ -7,8 +7,8 @@ use Rattle.shade_group.specs.Group.{IsRunnable}
 use Rattle.shade_lex.specs.declared.fault.LexFault.{LexFault}
 use Rattle.shade_lex.specs.declared.fault.LexFault.TheVariants as lex_fault
 use Rattle.shade_lex.specs.declared.piece.Problem.TheVariants as problem
-use Rattle.shade_parse_expr.specs.declared.fault.SyntaxFault.{SyntaxFault}
-use Rattle.shade_parse_expr.specs.declared.fault.SyntaxFault.TheVariants as syntax_fault
+use Rattle.shade_cursor.specs.declared.fault.SyntaxFault.{SyntaxFault}
+use Rattle.shade_cursor.specs.declared.fault.SyntaxFault.TheVariants as syntax_fault
 use Rattle.shade_report.specs.declared.refusal.Refusal.{Refusal}
 use Rattle.shade_report.specs.declared.refusal.Refusal.TheVariants.{Lex, Unexpected, TooDeep}
 use Rattle.shade_top.specs.Answer.{Answer, IsAnswerTo, MayRead}

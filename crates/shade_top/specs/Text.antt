@@ -6,7 +6,7 @@ use Rattle.shade_lex.specs.Tokens.{AreTokens, IsProblemOf}
 use Rattle.shade_lex.specs.Templates.{AreTemplates}
 use Rattle.shade_ast.specs.declared.tree.Tree.{Tree}
 use Rattle.shade_ast.specs.Lexemes.{Lexeme, lexemes}
-use Rattle.shade_parse_expr.specs.Answers.{IsPlaceOf}
+use Rattle.shade_cursor.specs.TokenPlaces.{IsPlaceOf}
 use Rattle.shade_parse.specs.Answers.{IsTree, IsUnexpected, IsTooDeep}
 use Rattle.shade_core.specs.declared.module.CoreModule.{CoreModule}
 use Rattle.shade_first.specs.FirstForm.{LeavesAt, StandsFor}

@@ -1,6 +1,6 @@
 -- A table stays sound, and keeps what it says of each type, when a type or a struct is added.
 use Rattle.std.proofs.Common.{◌≡◌, refl, sym, ap, subst, ◌∙◌, ℕ, zero, suc, ◌-◌, ◌^◌, ◌<◌, ◌≤◌, inl, inr, List, [], ◌∷◌, ◌++◌, length, map, Some, slice_get, get_or, Ok, Err, arith, length-append}
-use Rattle.std.specs.Prelude.{Contains, Result, IfOk, OnOk, OnErr, IsErrAnd}
+use Rattle.std.specs.Prelude.{Contains, Result, IfOk, IfErr, OnOk, OnErr, IsErrAnd}
 use Rattle.std.proofs.Math.ListN.{get_or-map as get_or-map_same}
 use Rattle.std.proofs.lemmas.Bool.Decides.{nat_tests}
 use Rattle.std.proofs.lemmas.List.{map-append, get_or_at, length-map}
@@ -12,7 +12,7 @@ use Rattle.shade_values.specs.declared.types.ShadeType.{ShadeType}
 use Rattle.shade_values.specs.declared.types.ShadeType.TheVariants.{Struct}
 use Rattle.shade_values.specs.declared.types.Layout.{Layout}
 use Rattle.shade_values.specs.declared.table.TableFault.{TableFault}
-use Rattle.shade_values.specs.declared.table.TableFault.TheVariants.{TooLarge}
+use Rattle.shade_values.specs.declared.table.TableFault.TheVariants.{TooLarge, NoMemory}
 use Rattle.shade_values.specs.declared.types.TypeId.{TypeId}
 use Rattle.shade_values.specs.declared.entry.Entry.{Entry}
 use Rattle.shade_values.specs.Table.{Table, StructView, members_at, no_struct, with_type, with_struct}
@@ -249,3 +249,30 @@ grows (Err fault) old new ty added refused = subst (Grows old) (sym refused) (gr
 pub found_within : (r : Result TypeId TableFault) (t : Table) (ty : ShadeType) → IfOk r (λ id. slice_get t.types id.0 ≡ Some ty) → IfOk r (λ id. id.0 < length t.types)
 found_within (Ok id) t ty h = slice_get_within t.types id.0 ty h
 found_within (Err fault) t ty h = tt
+
+-- what a table sees of what it keeps: a type over its ids, a type or a struct more, and nothing new after a refusal
+pub over_entries : (entries : List Entry) (structs : List StructView) (ty : ShadeType) → IsOf (table_of entries structs) ty → IsOver (length entries) structs ty
+over_entries entries structs ty over = subst (λ n. IsOver n structs ty) (length-map entries (λ e. e.ty)) over
+
+pub view_with_type : (entries new : List Entry) (structs : List StructView) (e : Entry) → new ≡ entries ++ e ∷ [] → table_of new structs ≡ with_type (table_of entries structs) e.ty
+view_with_type entries new structs e is =
+    ap (λ x. table_of x structs) is ∙ ap (λ x. record { types = x; structs = structs }) (map-append (λ x. x.ty) entries (e ∷ []))
+
+pub view_refused : (r : Result TypeId TableFault) (entries new : List Entry) (structs : List StructView) (t : Table) → table_of entries structs ≡ t → new ≡ entries
+    → OnErr r (table_of new structs ≡ t)
+view_refused (Ok id) entries new structs t view is = tt
+view_refused (Err fault) entries new structs t view is = ap (λ x. table_of x structs) is ∙ view
+
+pub no_memory : (r : Result TypeId TableFault) (fault : TableFault) → IsErrAnd r (λ y. y ≡ fault) → fault ≡ NoMemory → IfErr r (λ x. x ≡ NoMemory)
+no_memory (Ok id) fault h is = absurd h
+no_memory (Err y) fault h is = h ∙ is
+
+pub known_entries : (entries : List Entry) (structs : List StructView) (ms : List (List ℕ × TypeId)) → AreKnown (length (types_of entries)) ms → AreKnown (length entries) ms
+known_entries entries structs ms known = subst (λ n. AreKnown n ms) (length-map entries (λ e. e.ty)) known
+
+pub view_with_struct : (entries new : List Entry) (structs more : List StructView) (e : Entry) (name : List ℕ) (ms : List (List ℕ × TypeId)) → new ≡ entries ++ e ∷ []
+    → e.ty ≡ Struct (length structs) → more ≡ structs ++ (record { name = name; members = ms }) ∷ [] → table_of new more ≡ with_struct (table_of entries structs) name ms
+view_with_struct entries new structs more e name ms is ty grown =
+    ap (λ x. table_of x more) is
+    ∙ ap (λ x. record { types = x; structs = more }) (map-append (λ x. x.ty) entries (e ∷ []) ∙ ap (λ x. types_of entries ++ x ∷ []) ty)
+    ∙ ap (λ x. record { types = types_of entries ++ Struct (length structs) ∷ []; structs = x }) grown

@@ -1,10 +1,11 @@
-use Rattle.std.proofs.Common.{sym, subst, ◌+◌, arith}
+use Rattle.std.proofs.Common.{sym, subst, ◌+◌, arith, ap, ◌≡◌}
 use Rattle.shade_parse.specs.Rests.{AliasRest, ConstRest, AssertRest, StructRest, PlainAt}
-use Rattle.shade_parse_expr.specs.Shown.{lexemes}
+use Rattle.shade_cursor.specs.Shown.{lexemes}
 use Rattle.shade_parse_expr.proofs.Turns.{errs, fault_on, fails_here}
-use Rattle.shade_parse.proofs.Faulty.{within}
-use Rattle.shade_ast.proofs.Heads.{Headed}
-use Rattle.shade_parse.specs.Readings.{ReadsOf, decl_seen}
+use Rattle.shade_parse_simple.proofs.Faulty.{within}
+use Rattle.shade_ast.specs.Chains.{Headed}
+use Rattle.shade_parse_simple.specs.Readings.{ReadsOf}
+use Rattle.shade_parse.specs.Parts.{decl_seen}
 use Rattle.shade_parse.proofs.PlainLaws.{plain_stuck, plain_fails}
 use Rattle.shade_parse.proofs.DeclarationTrees.{plain_tree, empty_tree}
 use Rattle.shade_parse.proofs.declarations.plain.Goals as goal
@@ -38,3 +39,51 @@ returns-in_default-key_at-4-clause-tree c = fails_here (Headed PlainAt) 0 (lexem
 
 pub returns-clause-tree : goal.returns-clause-tree
 returns-clause-tree c = subst (λ r. ReadsOf decl_seen (Headed PlainAt) 0 (lexemes c.args.pieces.now) c.structure.new.names c.args.from c.args.node r) (sym c.numbered-2.ensures) (plain_tree (within c.args.pieces.now c.args.from c.requires.within) _ c.in-Some-key_at-4.ensures.value c.in_ok-read-4.ensures.tree)
+
+pub returns-in-Some-key_at-clause-further : goal.returns-in-Some-key_at-clause-further
+returns-in-Some-key_at-clause-further c = let end : c.numbered-in-Some-key_at.result.end ≡ c.in_ok-read.read.end = ap (λ y. y.end) c.numbered-in-Some-key_at.ensures in let node : c.numbered-in-Some-key_at.result.node ≡ c.in_ok-read.read.node + 1 = ap (λ y. y.node) c.numbered-in-Some-key_at.ensures in
+    omega (arith, c.in_ok-read.ensures.further)
+
+pub returns-in-Some-key_at-clause-within : goal.returns-in-Some-key_at-clause-within
+returns-in-Some-key_at-clause-within c = let end : c.numbered-in-Some-key_at.result.end ≡ c.in_ok-read.read.end = ap (λ y. y.end) c.numbered-in-Some-key_at.ensures in let node : c.numbered-in-Some-key_at.result.node ≡ c.in_ok-read.read.node + 1 = ap (λ y. y.node) c.numbered-in-Some-key_at.ensures in
+    omega (arith, c.in_ok-read.ensures.within)
+
+pub returns-in-Some-key_at-clause-node : goal.returns-in-Some-key_at-clause-node
+returns-in-Some-key_at-clause-node c = let end : c.numbered-in-Some-key_at.result.end ≡ c.in_ok-read.read.end = ap (λ y. y.end) c.numbered-in-Some-key_at.ensures in let node : c.numbered-in-Some-key_at.result.node ≡ c.in_ok-read.read.node + 1 = ap (λ y. y.node) c.numbered-in-Some-key_at.ensures in
+    omega (arith, c.in_ok-read.ensures.node)
+
+pub returns-in-Some-key_at-clause-names : goal.returns-in-Some-key_at-clause-names
+returns-in-Some-key_at-clause-names c = let end : c.numbered-in-Some-key_at.result.end ≡ c.in_ok-read.read.end = ap (λ y. y.end) c.numbered-in-Some-key_at.ensures in let node : c.numbered-in-Some-key_at.result.node ≡ c.in_ok-read.read.node + 1 = ap (λ y. y.node) c.numbered-in-Some-key_at.ensures in
+    omega (arith, c.in_ok-read.ensures.names)
+
+pub returns-in-Some-key_at-2-clause-further : goal.returns-in-Some-key_at-2-clause-further
+returns-in-Some-key_at-2-clause-further c = let end : c.numbered-in-Some-key_at-2.result.end ≡ c.in_ok-read-2.read.end = ap (λ y. y.end) c.numbered-in-Some-key_at-2.ensures in let node : c.numbered-in-Some-key_at-2.result.node ≡ c.in_ok-read-2.read.node + 1 = ap (λ y. y.node) c.numbered-in-Some-key_at-2.ensures in
+    omega (arith, c.in_ok-read-2.ensures.further)
+
+pub returns-in-Some-key_at-2-clause-within : goal.returns-in-Some-key_at-2-clause-within
+returns-in-Some-key_at-2-clause-within c = let end : c.numbered-in-Some-key_at-2.result.end ≡ c.in_ok-read-2.read.end = ap (λ y. y.end) c.numbered-in-Some-key_at-2.ensures in let node : c.numbered-in-Some-key_at-2.result.node ≡ c.in_ok-read-2.read.node + 1 = ap (λ y. y.node) c.numbered-in-Some-key_at-2.ensures in
+    omega (arith, c.in_ok-read-2.ensures.within)
+
+pub returns-in-Some-key_at-2-clause-node : goal.returns-in-Some-key_at-2-clause-node
+returns-in-Some-key_at-2-clause-node c = let end : c.numbered-in-Some-key_at-2.result.end ≡ c.in_ok-read-2.read.end = ap (λ y. y.end) c.numbered-in-Some-key_at-2.ensures in let node : c.numbered-in-Some-key_at-2.result.node ≡ c.in_ok-read-2.read.node + 1 = ap (λ y. y.node) c.numbered-in-Some-key_at-2.ensures in
+    omega (arith, c.in_ok-read-2.ensures.node)
+
+pub returns-in-Some-key_at-2-clause-names : goal.returns-in-Some-key_at-2-clause-names
+returns-in-Some-key_at-2-clause-names c = let end : c.numbered-in-Some-key_at-2.result.end ≡ c.in_ok-read-2.read.end = ap (λ y. y.end) c.numbered-in-Some-key_at-2.ensures in let node : c.numbered-in-Some-key_at-2.result.node ≡ c.in_ok-read-2.read.node + 1 = ap (λ y. y.node) c.numbered-in-Some-key_at-2.ensures in
+    omega (arith, c.in_ok-read-2.ensures.names)
+
+pub returns-in-Some-key_at-3-clause-further : goal.returns-in-Some-key_at-3-clause-further
+returns-in-Some-key_at-3-clause-further c = let end : c.numbered-in-Some-key_at-3.result.end ≡ c.in_ok-read-3.read.end = ap (λ y. y.end) c.numbered-in-Some-key_at-3.ensures in let node : c.numbered-in-Some-key_at-3.result.node ≡ c.in_ok-read-3.read.node + 1 = ap (λ y. y.node) c.numbered-in-Some-key_at-3.ensures in
+    omega (arith, c.in_ok-read-3.ensures.further)
+
+pub returns-in-Some-key_at-3-clause-within : goal.returns-in-Some-key_at-3-clause-within
+returns-in-Some-key_at-3-clause-within c = let end : c.numbered-in-Some-key_at-3.result.end ≡ c.in_ok-read-3.read.end = ap (λ y. y.end) c.numbered-in-Some-key_at-3.ensures in let node : c.numbered-in-Some-key_at-3.result.node ≡ c.in_ok-read-3.read.node + 1 = ap (λ y. y.node) c.numbered-in-Some-key_at-3.ensures in
+    omega (arith, c.in_ok-read-3.ensures.within)
+
+pub returns-in-Some-key_at-3-clause-node : goal.returns-in-Some-key_at-3-clause-node
+returns-in-Some-key_at-3-clause-node c = let end : c.numbered-in-Some-key_at-3.result.end ≡ c.in_ok-read-3.read.end = ap (λ y. y.end) c.numbered-in-Some-key_at-3.ensures in let node : c.numbered-in-Some-key_at-3.result.node ≡ c.in_ok-read-3.read.node + 1 = ap (λ y. y.node) c.numbered-in-Some-key_at-3.ensures in
+    omega (arith, c.in_ok-read-3.ensures.node)
+
+pub returns-in-Some-key_at-3-clause-names : goal.returns-in-Some-key_at-3-clause-names
+returns-in-Some-key_at-3-clause-names c = let end : c.numbered-in-Some-key_at-3.result.end ≡ c.in_ok-read-3.read.end = ap (λ y. y.end) c.numbered-in-Some-key_at-3.ensures in let node : c.numbered-in-Some-key_at-3.result.node ≡ c.in_ok-read-3.read.node + 1 = ap (λ y. y.node) c.numbered-in-Some-key_at-3.ensures in
+    omega (arith, c.in_ok-read-3.ensures.names)

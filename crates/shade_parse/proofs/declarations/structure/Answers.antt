@@ -4,10 +4,11 @@ use Rattle.shade_ast.specs.Repeats.{Listed}
 use Rattle.shade_ast.specs.Statements.{Name}
 use Rattle.shade_ast.specs.Declarations.{MemberOf}
 use Rattle.shade_parse.specs.Rests.{Enclosed, StructRest}
-use Rattle.shade_parse_expr.specs.Shown.{lexemes}
+use Rattle.shade_ast.proofs.ShapeLaws.{grows_trans}
+use Rattle.shade_cursor.specs.Shown.{lexemes}
 use Rattle.shade_parse_expr.proofs.Turns.{errs, fault_on, fails_here}
-use Rattle.shade_parse.proofs.Faulty.{within}
-use Rattle.shade_parse.proofs.Widens.{widen, named_keeps}
+use Rattle.shade_parse_simple.proofs.Faulty.{within}
+use Rattle.shade_parse_simple.proofs.Widens.{widen, named_keeps}
 use Rattle.shade_parse.proofs.PlainLaws.{struct_name_fails, struct_stuck, struct_members_fail}
 use Rattle.shade_parse.proofs.DeclarationLaws.{some_members}
 use Rattle.shade_parse.proofs.DeclarationTrees.{struct_tree}
@@ -24,3 +25,30 @@ returns-in_err-list-clause-tree c = errs _ c.in_err-list.field-0.0 _ _ c.from_re
 
 pub returns-clause-tree : goal.returns-clause-tree
 returns-clause-tree c = struct_tree (within c.args.pieces.now c.args.from c.requires.within) (widen named_keeps c.in_ok-list.ensures.grows c.in_ok-name.ensures.tree) c.in-Some.ensures.value c.in_ok-list.ensures.tree
+
+pub members-requires-clause-within : goal.members-requires-clause-within
+members-requires-clause-within c = omega (arith, c.in-Some.ensures.within)
+
+pub members-requires-clause-node : goal.members-requires-clause-node
+members-requires-clause-node c = omega (arith, c.in_ok-name.ensures.node)
+
+pub members-requires-clause-names : goal.members-requires-clause-names
+members-requires-clause-names c = omega (arith, c.in_ok-name.ensures.names)
+
+pub returns-in_err-list-clause-grows : goal.returns-in_err-list-clause-grows
+returns-in_err-list-clause-grows c = grows_trans _ _ _ c.in_ok-name.ensures.grows c.in_err-list.ensures.grows
+
+pub returns-clause-grows : goal.returns-clause-grows
+returns-clause-grows c = grows_trans _ _ _ c.in_ok-name.ensures.grows c.in_ok-list.ensures.grows
+
+pub returns-clause-further : goal.returns-clause-further
+returns-clause-further c = omega (arith, c.in_ok-name.ensures.further, c.in_ok-list.ensures.further)
+
+pub returns-clause-within : goal.returns-clause-within
+returns-clause-within c = omega (arith, c.in_ok-list.ensures.within)
+
+pub returns-clause-node : goal.returns-clause-node
+returns-clause-node c = omega (arith, c.in_ok-name.ensures.node, c.in_ok-list.ensures.node)
+
+pub returns-clause-names : goal.returns-clause-names
+returns-clause-names c = omega (arith, c.in_ok-name.ensures.names, c.in_ok-list.ensures.names)

@@ -2,11 +2,13 @@ use Rattle.std.proofs.Common.{◌+◌, arith}
 use Rattle.shade_ast.specs.declared.lexeme.Sign.TheVariants as sign
 use Rattle.shade_ast.specs.Statements.{Name}
 use Rattle.shade_ast.specs.Declarations.{RuleOf}
-use Rattle.shade_parse.specs.Rests.{Ending, DiagnosticRest}
-use Rattle.shade_parse_expr.specs.Shown.{lexemes}
+use Rattle.shade_parse_simple.specs.Rests.{Ending}
+use Rattle.shade_parse.specs.Rests.{DiagnosticRest}
+use Rattle.shade_ast.proofs.ShapeLaws.{grows_trans}
+use Rattle.shade_cursor.specs.Shown.{lexemes}
 use Rattle.shade_parse_expr.proofs.Turns.{errs, fault_on, fails_here}
-use Rattle.shade_parse.proofs.Faulty.{within, fault_plain}
-use Rattle.shade_parse.proofs.Widens.{widen, named_keeps}
+use Rattle.shade_parse_simple.proofs.Faulty.{within, fault_plain}
+use Rattle.shade_parse_simple.proofs.Widens.{widen, named_keeps}
 use Rattle.shade_parse.proofs.DirectiveLaws.{diagnostic_open, diagnostic_name_fails, diagnostic_comma, diagnostic_rule_fails, diagnostic_ending_fails, diagnostic_stuck}
 use Rattle.shade_parse.proofs.DirectiveTrees.{diagnostic_tree}
 use Rattle.shade_parse.proofs.directives.diagnostic.Goals as goal
@@ -31,3 +33,39 @@ returns-in_default-mark_at-2-clause-tree c = fails_here (DiagnosticRest c.args.p
 
 pub returns-clause-tree : goal.returns-clause-tree
 returns-clause-tree c = diagnostic_tree (within c.args.pieces.now c.args.from c.requires.within) c.in-Some.ensures.value (widen named_keeps c.in_ok-rule.ensures.grows c.in_ok-severity.ensures.tree) c.in-Some-mark_at.ensures.value c.in_ok-rule.ensures.tree c.in_ok-trailing.ensures.tree c.in-Some-mark_at-2.ensures.value
+
+pub rule-requires-clause-within : goal.rule-requires-clause-within
+rule-requires-clause-within c = omega (arith, c.in-Some-mark_at.ensures.within)
+
+pub rule-requires-clause-node : goal.rule-requires-clause-node
+rule-requires-clause-node c = omega (arith, c.in_ok-severity.ensures.node)
+
+pub rule-requires-clause-names : goal.rule-requires-clause-names
+rule-requires-clause-names c = omega (arith, c.in_ok-severity.ensures.names)
+
+pub returns-in_err-rule-clause-grows : goal.returns-in_err-rule-clause-grows
+returns-in_err-rule-clause-grows c = grows_trans _ _ _ c.in_ok-severity.ensures.grows c.in_err-rule.ensures.grows
+
+pub closed-requires-clause-within : goal.closed-requires-clause-within
+closed-requires-clause-within c = omega (arith, c.in_ok-rule.ensures.within)
+
+pub returns-in_err-trailing-clause-grows : goal.returns-in_err-trailing-clause-grows
+returns-in_err-trailing-clause-grows c = grows_trans _ _ _ c.in_ok-severity.ensures.grows c.in_ok-rule.ensures.grows
+
+pub returns-in_default-mark_at-2-clause-grows : goal.returns-in_default-mark_at-2-clause-grows
+returns-in_default-mark_at-2-clause-grows c = grows_trans _ _ _ c.in_ok-severity.ensures.grows c.in_ok-rule.ensures.grows
+
+pub returns-clause-grows : goal.returns-clause-grows
+returns-clause-grows c = grows_trans _ _ _ c.in_ok-severity.ensures.grows c.in_ok-rule.ensures.grows
+
+pub returns-clause-further : goal.returns-clause-further
+returns-clause-further c = omega (arith, c.in_ok-severity.ensures.further, c.in_ok-rule.ensures.further, c.in_ok-trailing.ensures.further, c.in_ok-trailing.ensures.within)
+
+pub returns-clause-within : goal.returns-clause-within
+returns-clause-within c = omega (arith, c.in_ok-trailing.ensures.further, c.in-Some-mark_at-2.ensures.within)
+
+pub returns-clause-node : goal.returns-clause-node
+returns-clause-node c = omega (arith, c.in_ok-severity.ensures.node, c.in_ok-rule.ensures.node, c.in_ok-trailing.ensures.further, c.in_ok-trailing.ensures.within)
+
+pub returns-clause-names : goal.returns-clause-names
+returns-clause-names c = omega (arith, c.in_ok-severity.ensures.names, c.in_ok-rule.ensures.names, c.in_ok-trailing.ensures.further, c.in_ok-trailing.ensures.within)

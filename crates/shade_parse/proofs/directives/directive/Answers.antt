@@ -1,14 +1,15 @@
-use Rattle.std.proofs.Common.{sym, subst, ◌+◌, arith}
+use Rattle.std.proofs.Common.{sym, subst, ◌+◌, arith, ap, ◌≡◌}
 use Rattle.shade_ast.specs.declared.lexeme.Sign.TheVariants as sign
 use Rattle.shade_ast.specs.Repeats.{Listed}
 use Rattle.shade_ast.specs.Statements.{Name}
 use Rattle.shade_ast.specs.Declarations.{DirectiveOf}
 use Rattle.shade_parse.specs.Rests.{Enclosed, DiagnosticRest}
-use Rattle.shade_parse_expr.specs.Shown.{lexemes}
+use Rattle.shade_cursor.specs.Shown.{lexemes}
 use Rattle.shade_parse_expr.proofs.Turns.{errs, fault_on, fails_here}
-use Rattle.shade_parse.proofs.Faulty.{within}
+use Rattle.shade_parse_simple.proofs.Faulty.{within}
 use Rattle.shade_ast.specs.Shapes.{requires_directive, enable_directive}
-use Rattle.shade_parse.specs.Readings.{ReadsOf, directive_seen}
+use Rattle.shade_parse_simple.specs.Readings.{ReadsOf}
+use Rattle.shade_parse.specs.Parts.{directive_seen}
 use Rattle.shade_parse.proofs.DirectiveLaws.{directive_stuck, directive_fails, built_fails}
 use Rattle.shade_parse.proofs.DirectiveTrees.{directive_tree, requires_tree, enable_tree}
 use Rattle.shade_parse.proofs.directives.directive.Goals as goal
@@ -33,3 +34,31 @@ returns-in_err-list-2-clause-tree c = errs _ c.in_err-list-2.field-0.0 _ _ c.fro
 
 pub returns-clause-tree : goal.returns-clause-tree
 returns-clause-tree c = subst (λ r. ReadsOf directive_seen DirectiveOf 0 (lexemes c.args.pieces.now) c.name_list-2.new.names c.args.from c.args.node r) (sym c.numbered-2.ensures) (directive_tree (within c.args.pieces.now c.args.from c.requires.within) _ c.in-Some-key_at-2.ensures.value (enable_tree (within c.args.pieces.now (c.args.from + 1) (omega (arith, c.in-Some-key_at-2.ensures.within))) c.in_ok-list-2.ensures.tree))
+
+pub returns-in-Some-clause-further : goal.returns-in-Some-clause-further
+returns-in-Some-clause-further c = let end : c.numbered.result.end ≡ c.in_ok-kind.kind.end = ap (λ y. y.end) c.numbered.ensures in let node : c.numbered.result.node ≡ c.in_ok-kind.kind.node + 1 = ap (λ y. y.node) c.numbered.ensures in omega (arith, c.in_ok-kind.ensures.further)
+
+pub returns-in-Some-clause-within : goal.returns-in-Some-clause-within
+returns-in-Some-clause-within c = let end : c.numbered.result.end ≡ c.in_ok-kind.kind.end = ap (λ y. y.end) c.numbered.ensures in let node : c.numbered.result.node ≡ c.in_ok-kind.kind.node + 1 = ap (λ y. y.node) c.numbered.ensures in omega (arith, c.in_ok-kind.ensures.within)
+
+pub returns-in-Some-clause-node : goal.returns-in-Some-clause-node
+returns-in-Some-clause-node c = let end : c.numbered.result.end ≡ c.in_ok-kind.kind.end = ap (λ y. y.end) c.numbered.ensures in let node : c.numbered.result.node ≡ c.in_ok-kind.kind.node + 1 = ap (λ y. y.node) c.numbered.ensures in omega (arith, c.in_ok-kind.ensures.node)
+
+pub returns-in-Some-clause-names : goal.returns-in-Some-clause-names
+returns-in-Some-clause-names c = let end : c.numbered.result.end ≡ c.in_ok-kind.kind.end = ap (λ y. y.end) c.numbered.ensures in let node : c.numbered.result.node ≡ c.in_ok-kind.kind.node + 1 = ap (λ y. y.node) c.numbered.ensures in omega (arith, c.in_ok-kind.ensures.names)
+
+pub returns-in-Some-key_at-clause-further : goal.returns-in-Some-key_at-clause-further
+returns-in-Some-key_at-clause-further c = let end : c.numbered-in-Some-key_at.result.end ≡ c.in_ok-list.list.end = ap (λ y. y.end) c.numbered-in-Some-key_at.ensures in let node : c.numbered-in-Some-key_at.result.node ≡ c.in_ok-list.list.node + 1 = ap (λ y. y.node) c.numbered-in-Some-key_at.ensures in
+    omega (arith, c.in_ok-list.ensures.further)
+
+pub returns-in-Some-key_at-clause-within : goal.returns-in-Some-key_at-clause-within
+returns-in-Some-key_at-clause-within c = let end : c.numbered-in-Some-key_at.result.end ≡ c.in_ok-list.list.end = ap (λ y. y.end) c.numbered-in-Some-key_at.ensures in let node : c.numbered-in-Some-key_at.result.node ≡ c.in_ok-list.list.node + 1 = ap (λ y. y.node) c.numbered-in-Some-key_at.ensures in
+    omega (arith, c.in_ok-list.ensures.within)
+
+pub returns-in-Some-key_at-clause-node : goal.returns-in-Some-key_at-clause-node
+returns-in-Some-key_at-clause-node c = let end : c.numbered-in-Some-key_at.result.end ≡ c.in_ok-list.list.end = ap (λ y. y.end) c.numbered-in-Some-key_at.ensures in let node : c.numbered-in-Some-key_at.result.node ≡ c.in_ok-list.list.node + 1 = ap (λ y. y.node) c.numbered-in-Some-key_at.ensures in
+    omega (arith, c.in_ok-list.ensures.node)
+
+pub returns-in-Some-key_at-clause-names : goal.returns-in-Some-key_at-clause-names
+returns-in-Some-key_at-clause-names c = let end : c.numbered-in-Some-key_at.result.end ≡ c.in_ok-list.list.end = ap (λ y. y.end) c.numbered-in-Some-key_at.ensures in let node : c.numbered-in-Some-key_at.result.node ≡ c.in_ok-list.list.node + 1 = ap (λ y. y.node) c.numbered-in-Some-key_at.ensures in
+    omega (arith, c.in_ok-list.ensures.names)

@@ -1,10 +1,11 @@
 use Rattle.std.proofs.Common.{◌+◌, arith}
 use Rattle.shade_ast.specs.Statements.{Name}
 use Rattle.shade_ast.specs.Declarations.{RuleOf}
-use Rattle.shade_parse_expr.specs.Shown.{lexemes}
+use Rattle.shade_ast.proofs.ShapeLaws.{grows_trans}
+use Rattle.shade_cursor.specs.Shown.{lexemes}
 use Rattle.shade_parse_expr.proofs.Turns.{errs, fault_on}
-use Rattle.shade_parse.proofs.Faulty.{within}
-use Rattle.shade_parse.proofs.Widens.{widen, named_keeps}
+use Rattle.shade_parse_simple.proofs.Faulty.{within}
+use Rattle.shade_parse_simple.proofs.Widens.{widen, named_keeps}
 use Rattle.shade_parse.proofs.DirectiveLaws.{rule_name_fails, rule_second_fails}
 use Rattle.shade_parse.proofs.DirectiveTrees.{plain_tree, scoped_tree}
 use Rattle.shade_parse.proofs.directives.rule.Goals as goal
@@ -20,3 +21,33 @@ returns-in_err-name-clause-tree c = errs _ c.in_err-name.field-0.0 _ _ c.from_re
 
 pub returns-clause-tree : goal.returns-clause-tree
 returns-clause-tree c = scoped_tree (within c.args.pieces.now c.args.from c.requires.within) (widen named_keeps c.in_ok-name.ensures.grows c.in_ok-first.ensures.tree) c.in-Some.ensures.value c.in_ok-name.ensures.tree
+
+pub returns-in_default-clause-further : goal.returns-in_default-clause-further
+returns-in_default-clause-further c = omega (arith, c.in_ok-first.ensures.further)
+
+pub returns-in_default-clause-within : goal.returns-in_default-clause-within
+returns-in_default-clause-within c = omega (arith, c.in_ok-first.ensures.within)
+
+pub returns-in_default-clause-node : goal.returns-in_default-clause-node
+returns-in_default-clause-node c = omega (arith, c.in_ok-first.ensures.node)
+
+pub returns-in_default-clause-names : goal.returns-in_default-clause-names
+returns-in_default-clause-names c = omega (arith, c.in_ok-first.ensures.names)
+
+pub returns-in_err-name-clause-grows : goal.returns-in_err-name-clause-grows
+returns-in_err-name-clause-grows c = grows_trans _ _ _ c.in_ok-first.ensures.grows c.in_err-name.ensures.grows
+
+pub returns-clause-grows : goal.returns-clause-grows
+returns-clause-grows c = grows_trans _ _ _ c.in_ok-first.ensures.grows c.in_ok-name.ensures.grows
+
+pub returns-clause-further : goal.returns-clause-further
+returns-clause-further c = omega (arith, c.in_ok-first.ensures.further, c.in_ok-name.ensures.further)
+
+pub returns-clause-within : goal.returns-clause-within
+returns-clause-within c = omega (arith, c.in_ok-name.ensures.within)
+
+pub returns-clause-node : goal.returns-clause-node
+returns-clause-node c = omega (arith, c.in_ok-first.ensures.node, c.in_ok-name.ensures.node)
+
+pub returns-clause-names : goal.returns-clause-names
+returns-clause-names c = omega (arith, c.in_ok-first.ensures.names, c.in_ok-name.ensures.names)

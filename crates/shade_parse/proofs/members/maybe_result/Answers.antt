@@ -5,11 +5,12 @@ use Rattle.shade_ast.specs.Repeats.{Many}
 use Rattle.shade_ast.specs.Expressions.{TypeName}
 use Rattle.shade_ast.specs.Statements.{Attribute}
 use Rattle.shade_ast.specs.Declarations.{ResultOf}
-use Rattle.shade_parse_expr.specs.Shown.{lexemes}
+use Rattle.shade_ast.proofs.ShapeLaws.{grows_trans}
+use Rattle.shade_cursor.specs.Shown.{lexemes}
 use Rattle.shade_parse_expr.proofs.Turns.{errs}
-use Rattle.shade_parse.proofs.Faulty.{within, fault_in}
-use Rattle.shade_parse.proofs.Widens.{widen, attrs_keep, part_reads}
-use Rattle.shade_parse.proofs.Openings.{opened_fails}
+use Rattle.shade_parse_simple.proofs.Faulty.{within, fault_in}
+use Rattle.shade_parse_simple.proofs.Widens.{widen, attrs_keep, part_reads}
+use Rattle.shade_parse_simple.proofs.Openings.{opened_fails}
 use Rattle.shade_parse.proofs.MemberLaws.{result_opens, result_attrs_fail, result_type_fails}
 use Rattle.shade_parse.proofs.MemberTrees.{result_tree}
 use Rattle.shade_parse.proofs.members.maybe_result.Goals as goal
@@ -22,3 +23,30 @@ returns-in_err-ty-clause-tree c = errs _ c.in_err-ty.field-0.0 _ _ c.from_residu
 
 pub returns-clause-tree : goal.returns-clause-tree
 returns-clause-tree c = result_tree (within c.args.pieces.now c.args.from c.requires.within) c.in-Some.ensures.value (within c.args.pieces.now (c.args.from + 1) (omega (arith, c.in-Some.ensures.within))) (omega (arith, c.in_ok-attrs.ensures.further, c.in_ok-ty.ensures.further)) (widen attrs_keep c.in_ok-ty.ensures.grows c.in_ok-attrs.ensures.tree) (part_reads c.in_ok-ty.ensures.tree)
+
+pub type_name-requires-clause-within : goal.type_name-requires-clause-within
+type_name-requires-clause-within c = omega (arith, c.in_ok-attrs.ensures.within)
+
+pub type_name-requires-clause-node : goal.type_name-requires-clause-node
+type_name-requires-clause-node c = omega (arith, c.in_ok-attrs.ensures.node)
+
+pub type_name-requires-clause-names : goal.type_name-requires-clause-names
+type_name-requires-clause-names c = omega (arith, c.in_ok-attrs.ensures.names)
+
+pub returns-in_err-ty-clause-grows : goal.returns-in_err-ty-clause-grows
+returns-in_err-ty-clause-grows c = grows_trans _ _ _ c.in_ok-attrs.ensures.grows c.in_err-ty.ensures.grows
+
+pub returns-clause-grows : goal.returns-clause-grows
+returns-clause-grows c = grows_trans _ _ _ c.in_ok-attrs.ensures.grows c.in_ok-ty.ensures.grows
+
+pub returns-clause-further : goal.returns-clause-further
+returns-clause-further c = omega (arith, c.in_ok-attrs.ensures.further, c.in_ok-ty.ensures.further)
+
+pub returns-clause-within : goal.returns-clause-within
+returns-clause-within c = omega (arith, c.in_ok-ty.ensures.within)
+
+pub returns-clause-node : goal.returns-clause-node
+returns-clause-node c = omega (arith, c.in_ok-attrs.ensures.node, c.in_ok-ty.ensures.node)
+
+pub returns-clause-names : goal.returns-clause-names
+returns-clause-names c = omega (arith, c.in_ok-attrs.ensures.names, c.in_ok-ty.ensures.names)

@@ -2,14 +2,14 @@ use Rattle.std.proofs.Common.{sym, subst, arith}
 use Rattle.shade_ast.specs.Repeats.{Listed}
 use Rattle.shade_ast.specs.Declarations.{MemberOf}
 use Rattle.shade_parse.specs.Rests.{Enclosed}
-use Rattle.shade_parse_expr.specs.Shown.{lexemes}
+use Rattle.shade_cursor.specs.Shown.{lexemes}
 use Rattle.shade_parse_expr.proofs.Turns.{errs, fault_on, fails_here}
-use Rattle.shade_parse.proofs.Faulty.{within}
-use Rattle.shade_parse.specs.Readings.{enclosed_seen, member_seen}
+use Rattle.shade_parse_simple.proofs.Faulty.{within}
+use Rattle.shade_parse.specs.Parts.{enclosed_seen, member_seen}
 use Rattle.shade_parse.proofs.ListTurns.{list_first, list_fails, list_close, list_stuck, list_comma_close, list_more}
 use Rattle.shade_parse.proofs.MemberLaws.{members_listed}
 use Rattle.shade_parse.proofs.MemberTrees.{member_keeps}
-use Rattle.shade_parse.specs.Readings.{ReadsOf}
+use Rattle.shade_parse_simple.specs.Readings.{ReadsOf}
 use Rattle.shade_parse.proofs.members.members.Goals as goal
 
 pub items-init : goal.items-init

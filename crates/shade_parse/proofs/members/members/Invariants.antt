@@ -1,7 +1,7 @@
 use Rattle.std.proofs.Common.{length, ◌-◌}
-use Rattle.shade_parse_expr.specs.Shown.{lexemes}
+use Rattle.shade_cursor.specs.Shown.{lexemes}
 use Rattle.shade_ast.specs.Declarations.{MemberOf}
-use Rattle.shade_parse.specs.Readings.{member_seen}
+use Rattle.shade_parse.specs.Parts.{member_seen}
 use Rattle.shade_parse.proofs.ListTurns.{ListTurn}
 use Rattle.shade_parse.proofs.members.members.Given as goal
 

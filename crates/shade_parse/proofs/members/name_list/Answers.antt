@@ -3,14 +3,14 @@ use Rattle.shade_ast.specs.declared.lexeme.Sign.TheVariants as sign
 use Rattle.shade_ast.specs.Repeats.{Listed}
 use Rattle.shade_ast.specs.Statements.{Name}
 use Rattle.shade_parse.specs.Rests.{Enclosed}
-use Rattle.shade_parse_expr.specs.Shown.{lexemes}
+use Rattle.shade_cursor.specs.Shown.{lexemes}
 use Rattle.shade_parse_expr.proofs.Turns.{errs, fault_on, fails_here}
-use Rattle.shade_parse.proofs.Faulty.{within}
-use Rattle.shade_parse.proofs.Widens.{named_keeps}
-use Rattle.shade_parse.specs.Readings.{enclosed_seen, named_seen}
+use Rattle.shade_parse_simple.proofs.Faulty.{within}
+use Rattle.shade_parse_simple.proofs.Widens.{named_keeps}
+use Rattle.shade_parse.specs.Parts.{enclosed_seen}
+use Rattle.shade_parse_simple.specs.Readings.{named_seen, ReadsOf}
 use Rattle.shade_parse.proofs.ListTurns.{list_first, list_fails, list_close, list_stuck, list_comma_close, list_more}
 use Rattle.shade_parse.proofs.MemberLaws.{names_listed}
-use Rattle.shade_parse.specs.Readings.{ReadsOf}
 use Rattle.shade_parse.proofs.members.name_list.Goals as goal
 
 pub items-init : goal.items-init

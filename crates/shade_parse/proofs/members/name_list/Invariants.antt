@@ -1,8 +1,8 @@
 use Rattle.std.proofs.Common.{length, ◌-◌}
-use Rattle.shade_parse_expr.specs.Shown.{lexemes}
+use Rattle.shade_cursor.specs.Shown.{lexemes}
 use Rattle.shade_ast.specs.declared.lexeme.Sign.TheVariants as sign
 use Rattle.shade_ast.specs.Statements.{Name}
-use Rattle.shade_parse.specs.Readings.{named_seen}
+use Rattle.shade_parse_simple.specs.Readings.{named_seen}
 use Rattle.shade_parse.proofs.ListTurns.{ListTurn}
 use Rattle.shade_parse.proofs.members.name_list.Given as goal
 

@@ -4,14 +4,14 @@ use Rattle.shade_ast.specs.Repeats.{Listed, MaybeListed}
 use Rattle.shade_ast.specs.Declarations.{MemberOf}
 use Rattle.shade_parse.specs.Rests.{Enclosed}
 use Rattle.shade_parse_expr.specs.Parts.{Faults}
-use Rattle.shade_parse_expr.specs.Shown.{lexemes}
+use Rattle.shade_cursor.specs.Shown.{lexemes}
 use Rattle.shade_parse_expr.proofs.Turns.{answers, fault_on}
-use Rattle.shade_parse.proofs.Faulty.{within}
-use Rattle.shade_parse.specs.Readings.{enclosed_seen, member_seen}
+use Rattle.shade_parse_simple.proofs.Faulty.{within}
+use Rattle.shade_parse.specs.Parts.{enclosed_seen, member_seen}
 use Rattle.shade_parse.proofs.ListTurns.{list_none, list_some}
 use Rattle.shade_parse.proofs.MemberLaws.{members_paren}
 use Rattle.shade_parse.proofs.Enclosing.{maybe_stuck}
-use Rattle.shade_parse.specs.Readings.{ReadsOf}
+use Rattle.shade_parse_simple.specs.Readings.{ReadsOf}
 use Rattle.shade_parse.proofs.members.parameters.Goals as goal
 
 pub returns-in-Some-clause-tree : goal.returns-in-Some-clause-tree

@@ -1,12 +1,11 @@
-use Rattle.std.proofs.Common.{refl, sym, subst, length, arith, ◌≤◌}
+use Rattle.std.proofs.Common.{refl, sym, subst, length, arith, ◌≤◌, map, ◌++◌}
 use Rattle.shade_ast.specs.Declarations.{Module}
-use Rattle.shade_parse_expr.specs.Shown.{lexemes}
+use Rattle.shade_cursor.specs.Shown.{lexemes}
 use Rattle.shade_parse_expr.proofs.Turns.{errs}
-use Rattle.std.proofs.Common.{map, ◌++◌}
 use Rattle.shade_ast.specs.Shaped.{directive_shape, decl_shape}
 use Rattle.shade_ast.specs.Nodes.{joined_of, directive_nodes, decl_nodes, CountFrom}
 use Rattle.shade_ast.specs.Places.{IsOnly}
-use Rattle.shade_parse.proofs.Faulty.{isnt, below, above}
+use Rattle.shade_parse_simple.proofs.Faulty.{isnt, below, above}
 use Rattle.shade_parse.proofs.ModuleLaws.{tree}
 use Rattle.shade_parse.proofs.ModuleTrees.{DeclTurn, directives_first, directive_turn, directive_fault, decls_first, decl_turn, decl_fault, whole_only, whole_nodes, whole_few}
 use Rattle.shade_parse.proofs.modules.whole.Goals as goal

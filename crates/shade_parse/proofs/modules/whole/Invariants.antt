@@ -1,5 +1,5 @@
 use Rattle.std.proofs.Common.{length, ◌-◌}
-use Rattle.shade_parse_expr.specs.Shown.{lexemes}
+use Rattle.shade_cursor.specs.Shown.{lexemes}
 use Rattle.shade_parse.proofs.ModuleTrees.{DirectiveTurn, DeclTurn}
 use Rattle.shade_parse.proofs.modules.whole.Given as goal
 

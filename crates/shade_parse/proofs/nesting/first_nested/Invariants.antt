@@ -1,4 +1,4 @@
-use Rattle.shade_parse_expr.specs.Shown.{lexemes}
+use Rattle.shade_cursor.specs.Shown.{lexemes}
 use Rattle.shade_parse.proofs.NestingLaws.{Known}
 use Rattle.shade_parse.proofs.nesting.first_nested.Given as goal
 

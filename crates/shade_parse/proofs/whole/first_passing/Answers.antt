@@ -1,5 +1,5 @@
-use Rattle.shade_parse_expr.specs.Shown.{lexemes}
-use Rattle.shade_parse_expr.specs.Depths.{IsDeep}
+use Rattle.shade_cursor.specs.Shown.{lexemes}
+use Rattle.shade_cursor.specs.Depths.{IsDeep}
 use Rattle.shade_parse.specs.Nesting.{IsNested}
 use Rattle.shade_parse.proofs.WholeLaws.{earlier_found}
 use Rattle.shade_parse.proofs.whole.first_passing.Goals as goal

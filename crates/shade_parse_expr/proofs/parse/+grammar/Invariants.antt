@@ -1,12 +1,12 @@
 use Rattle.std.proofs.Common.{length, ◌+◌, ◌-◌, ◌*◌, []}
-use Rattle.shade_ast.proofs.LeftLaws.{AccessStep, Factor, Term}
-use Rattle.shade_ast.proofs.Tails.{Tail}
+use Rattle.shade_ast.specs.Steps.{AccessStep, Factor, Term}
+use Rattle.shade_ast.specs.Chains.{Tail}
 use Rattle.shade_ast.specs.Expressions.{Additive, Multiplicative}
 use Rattle.shade_ast.specs.Nodes.{expr_nodes}
 use Rattle.shade_ast.specs.Shaped.{expr_shape}
 use Rattle.shade_parse_expr.proofs.Turns.{ListTurn, Turn}
 use Rattle.shade_parse_expr.specs.Rests.{Joining}
-use Rattle.shade_parse_expr.specs.Shown.{lexemes}
+use Rattle.shade_cursor.specs.Shown.{lexemes}
 use Rattle.shade_parse_expr.proofs.parse.+grammar.Given as goal
 
 abbrev pub decreases-in_parens : goal.decreases-in_parens

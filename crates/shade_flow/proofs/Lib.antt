@@ -1,0 +1,13 @@
+pub mod Members
+pub mod Words
+pub mod SpreadLaws
+pub mod WorkLaws
+pub mod StepLaws
+pub mod WalkLaws
+pub mod TableLaws
+pub mod ChosenLaws
+pub mod EdgeLaws
+pub mod ExactLaws
+pub mod WriteWalks
+pub mod Variables
+pub mod Marks

@@ -1,0 +1,9 @@
+pub mod Lists
+pub mod Bits
+pub mod Work
+pub mod Flow
+pub mod Steps
+pub mod Writes
+pub mod Tables
+pub mod Chosen
+pub mod Exact

@@ -1,0 +1,4 @@
+pub mod Readings
+pub mod Rests
+pub mod Maybes
+pub mod Updates

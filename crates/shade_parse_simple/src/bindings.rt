@@ -1,0 +1,304 @@
+//! Declarations by `var`, `const` and `let`.
+
+ghost use Rattle.std.specs.Prelude.{◌≡◌, ◌+◌, ◌<◌, ◌≤◌, ◌^◌, length, IfOk, MatchResult};
+ghost use Rattle.shade_ast.specs.declared.lexeme.Sign.TheVariants as sign_;
+ghost use Rattle.shade_ast.specs.Lexemes.{Mark};
+ghost use Rattle.shade_ast.specs.Names.{Grows};
+ghost use Rattle.shade_ast.specs.Statements.{HasValue, OfType, Var as VarPhrase, VarSpace as VarSpacePhrase};
+ghost use Rattle.shade_parse_simple.specs.Maybes.{MaybeFaults, MaybeOf};
+ghost use Rattle.shade_parse_simple.specs.Readings.{access_seen, binding_seen, expr_seen, var_seen, var_space_seen, ReadsOf};
+ghost use Rattle.shade_parse_simple.specs.Rests.{Bound, SpaceEnd};
+ghost use Rattle.shade_parse_expr.specs.Parts.{Faults};
+ghost use Rattle.shade_cursor.specs.Shown.{lexemes};
+
+use crate::read::{Read, refuse};
+use crate::tokens::{closed, name};
+use shade_ast::{Binding, Expr, Keyword, Named, Names, Sign, Var, VarSpace};
+use shade_base::Place;
+use shade_cursor::part::Fault;
+use shade_cursor::piece::{Piece, key_at, mark_at};
+use shade_parse_expr::parse::{expression, type_name};
+use std::alloc::Global;
+
+/// A type behind a `:`, where one stands.
+pub fn maybe_type(
+    alloc: Global,
+    pieces: &[Piece],
+    names: &mut Names,
+    from: usize,
+    node: u32,
+) -> Result<Read<Option<Expr>>, Fault>
+    requires within { from ≤ length pieces.now }
+    requires node { node + length pieces.now < 2 ^ 32 + from }
+    requires names { length names.old + length pieces.now < 2 ^ 32 + from }
+    ensures tree { MatchResult result (λ r. MaybeOf expr_seen (Mark sign_.Colon) OfType 0 (lexemes pieces.now) names.new from node r) (λ f. MaybeFaults (Mark sign_.Colon) OfType 0 (lexemes pieces.now) names.old names.new from f) }
+    ensures grows { Grows names.old names.new }
+    ensures further { IfOk result (λ r. from ≤ r.end) }
+    ensures within { IfOk result (λ r. r.end ≤ length pieces.now) }
+    ensures node { IfOk result (λ r. r.node + from ≤ node + r.end) }
+    ensures names { IfOk result (λ r. length names.new + from ≤ length names.old + r.end) }
+{
+    let Some(_) = mark_at(pieces, from, Sign::Colon) else {
+        return Ok(Read {
+            tree: None,
+            end: from,
+            node,
+        });
+    };
+    let ty = of_type(alloc, pieces, names, from, node)?;
+    Ok(Read {
+        tree: Some(ty.tree),
+        end: ty.end,
+        node: ty.node,
+    })
+}
+
+/// A type behind a `:`.
+pub fn of_type(
+    alloc: Global,
+    pieces: &[Piece],
+    names: &mut Names,
+    from: usize,
+    node: u32,
+) -> Result<Read<Expr>, Fault>
+    requires within { from ≤ length pieces.now }
+    requires node { node + length pieces.now < 2 ^ 32 + from }
+    requires names { length names.old + length pieces.now < 2 ^ 32 + from }
+    ensures tree { MatchResult result (λ r. ReadsOf expr_seen OfType 0 (lexemes pieces.now) names.new from node r) (λ f. Faults OfType 0 (lexemes pieces.now) names.old names.new from f) }
+    ensures grows { Grows names.old names.new }
+    ensures further { IfOk result (λ r. from < r.end) }
+    ensures within { IfOk result (λ r. r.end ≤ length pieces.now) }
+    ensures node { IfOk result (λ r. r.node + from < node + r.end) }
+    ensures names { IfOk result (λ r. length names.new + from ≤ length names.old + r.end) }
+{
+    let Some(_) = mark_at(pieces, from, Sign::Colon) else {
+        return Err(Fault::Unexpected(from));
+    };
+    let ty = type_name(alloc, pieces, names, from + 1, node)?;
+    Ok(Read {
+        tree: ty.expr,
+        end: ty.end,
+        node: ty.node,
+    })
+}
+
+/// A value behind a `=`, where one stands.
+pub fn maybe_value(
+    alloc: Global,
+    pieces: &[Piece],
+    names: &mut Names,
+    from: usize,
+    node: u32,
+) -> Result<Read<Option<Expr>>, Fault>
+    requires within { from ≤ length pieces.now }
+    requires node { node + length pieces.now < 2 ^ 32 + from }
+    requires names { length names.old + length pieces.now < 2 ^ 32 + from }
+    ensures tree { MatchResult result (λ r. MaybeOf expr_seen (Mark sign_.Equal) HasValue 7 (lexemes pieces.now) names.new from node r) (λ f. MaybeFaults (Mark sign_.Equal) HasValue 7 (lexemes pieces.now) names.old names.new from f) }
+    ensures grows { Grows names.old names.new }
+    ensures further { IfOk result (λ r. from ≤ r.end) }
+    ensures within { IfOk result (λ r. r.end ≤ length pieces.now) }
+    ensures node { IfOk result (λ r. r.node + from ≤ node + r.end) }
+    ensures names { IfOk result (λ r. length names.new + from ≤ length names.old + r.end) }
+{
+    let Some(_) = mark_at(pieces, from, Sign::Equal) else {
+        return Ok(Read {
+            tree: None,
+            end: from,
+            node,
+        });
+    };
+    let value = has_value(alloc, pieces, names, from, node)?;
+    Ok(Read {
+        tree: Some(value.tree),
+        end: value.end,
+        node: value.node,
+    })
+}
+
+/// A value behind a `=`.
+pub fn has_value(
+    alloc: Global,
+    pieces: &[Piece],
+    names: &mut Names,
+    from: usize,
+    node: u32,
+) -> Result<Read<Expr>, Fault>
+    requires within { from ≤ length pieces.now }
+    requires node { node + length pieces.now < 2 ^ 32 + from }
+    requires names { length names.old + length pieces.now < 2 ^ 32 + from }
+    ensures tree { MatchResult result (λ r. ReadsOf expr_seen HasValue 7 (lexemes pieces.now) names.new from node r) (λ f. Faults HasValue 7 (lexemes pieces.now) names.old names.new from f) }
+    ensures grows { Grows names.old names.new }
+    ensures further { IfOk result (λ r. from < r.end) }
+    ensures within { IfOk result (λ r. r.end ≤ length pieces.now) }
+    ensures node { IfOk result (λ r. r.node + from < node + r.end) }
+    ensures names { IfOk result (λ r. length names.new + from ≤ length names.old + r.end) }
+{
+    let Some(_) = mark_at(pieces, from, Sign::Equal) else {
+        return Err(Fault::Unexpected(from));
+    };
+    let value = expression(alloc, pieces, names, from + 1, node)?;
+    Ok(Read {
+        tree: value.expr,
+        end: value.end,
+        node: value.node,
+    })
+}
+
+/// What stands behind the keyword of a `const` or a `let`.
+pub fn bound(
+    alloc: Global,
+    pieces: &[Piece],
+    names: &mut Names,
+    from: usize,
+    node: u32,
+    keyword: Place,
+) -> Result<Read<Binding>, Fault>
+    requires within { from ≤ length pieces.now }
+    requires node { node + length pieces.now < 2 ^ 32 + from }
+    requires names { length names.old + length pieces.now < 2 ^ 32 + from }
+    ensures tree { MatchResult result (λ r. ReadsOf binding_seen (Bound keyword) 7 (lexemes pieces.now) names.new from node r) (λ f. Faults (Bound keyword) 7 (lexemes pieces.now) names.old names.new from f) }
+    ensures grows { Grows names.old names.new }
+    ensures further { IfOk result (λ r. from < r.end) }
+    ensures within { IfOk result (λ r. r.end ≤ length pieces.now) }
+    ensures node { IfOk result (λ r. r.node + from ≤ node + r.end) }
+    ensures names { IfOk result (λ r. length names.new + from ≤ length names.old + r.end) }
+{
+    let name = name(pieces, names, from, node)?;
+    let ty = maybe_type(alloc, pieces, names, name.end, name.node)?;
+    let value = match has_value(alloc, pieces, names, ty.end, ty.node) {
+        Ok(value) => value,
+        Err(fault) => return refuse(fault, ty),
+    };
+    Ok(Read {
+        tree: Binding {
+            keyword,
+            name: name.tree,
+            ty: ty.tree,
+            value: value.tree,
+        },
+        end: value.end,
+        node: value.node,
+    })
+}
+
+/// A second name in the template list of a `var`, where one stands, and the `>`.
+fn access(
+    pieces: &[Piece],
+    names: &mut Names,
+    from: usize,
+    node: u32,
+) -> Result<Read<(Option<Named>, bool)>, Fault>
+    requires within { from ≤ length pieces.now }
+    requires node { node + length pieces.now < 2 ^ 32 + from }
+    requires names { length names.old + length pieces.now < 2 ^ 32 + from }
+    ensures tree { MatchResult result (λ r. ReadsOf access_seen SpaceEnd 0 (lexemes pieces.now) names.new from node r) (λ f. Faults SpaceEnd 0 (lexemes pieces.now) names.old names.new from f) }
+    ensures grows { Grows names.old names.new }
+    ensures further { IfOk result (λ r. from < r.end) }
+    ensures within { IfOk result (λ r. r.end ≤ length pieces.now) }
+    ensures node { IfOk result (λ r. r.node + from ≤ node + r.end) }
+    ensures names { IfOk result (λ r. length names.new + from ≤ length names.old + r.end) }
+{
+    if let Some(_) = mark_at(pieces, from, Sign::CloseTemplate) {
+        return Ok(Read {
+            tree: (None, false),
+            end: from + 1,
+            node,
+        });
+    }
+    let Some(_) = mark_at(pieces, from, Sign::Comma) else {
+        return Err(Fault::Unexpected(from));
+    };
+    if let Some(_) = mark_at(pieces, from + 1, Sign::CloseTemplate) {
+        return Ok(Read {
+            tree: (None, true),
+            end: from + 2,
+            node,
+        });
+    }
+    let name = name(pieces, names, from + 1, node)?;
+    let (trailing, end) = closed(pieces, name.end, Sign::CloseTemplate)?;
+    Ok(Read {
+        tree: (Some(name.tree), trailing),
+        end,
+        node: name.node,
+    })
+}
+
+/// The template list of a `var`, where one stands.
+fn maybe_space(
+    pieces: &[Piece],
+    names: &mut Names,
+    from: usize,
+    node: u32,
+) -> Result<Read<Option<VarSpace>>, Fault>
+    requires within { from ≤ length pieces.now }
+    requires node { node + length pieces.now < 2 ^ 32 + from }
+    requires names { length names.old + length pieces.now < 2 ^ 32 + from }
+    ensures tree { MatchResult result (λ r. MaybeOf var_space_seen (Mark sign_.OpenTemplate) VarSpacePhrase 0 (lexemes pieces.now) names.new from node r) (λ f. MaybeFaults (Mark sign_.OpenTemplate) VarSpacePhrase 0 (lexemes pieces.now) names.old names.new from f) }
+    ensures grows { Grows names.old names.new }
+    ensures further { IfOk result (λ r. from ≤ r.end) }
+    ensures within { IfOk result (λ r. r.end ≤ length pieces.now) }
+    ensures node { IfOk result (λ r. r.node + from ≤ node + r.end) }
+    ensures names { IfOk result (λ r. length names.new + from ≤ length names.old + r.end) }
+{
+    let Some(_) = mark_at(pieces, from, Sign::OpenTemplate) else {
+        return Ok(Read {
+            tree: None,
+            end: from,
+            node,
+        });
+    };
+    let space = name(pieces, names, from + 1, node)?;
+    let access = access(pieces, names, space.end, space.node)?;
+    let (other, trailing) = access.tree;
+    Ok(Read {
+        tree: Some(VarSpace {
+            space: space.tree,
+            access: other,
+            trailing,
+        }),
+        end: access.end,
+        node: access.node,
+    })
+}
+
+/// A declaration by `var`.
+pub fn var(
+    alloc: Global,
+    pieces: &[Piece],
+    names: &mut Names,
+    from: usize,
+    node: u32,
+) -> Result<Read<Var>, Fault>
+    requires within { from ≤ length pieces.now }
+    requires node { node + length pieces.now < 2 ^ 32 + from }
+    requires names { length names.old + length pieces.now < 2 ^ 32 + from }
+    ensures tree { MatchResult result (λ r. ReadsOf var_seen VarPhrase 8 (lexemes pieces.now) names.new from node r) (λ f. Faults VarPhrase 8 (lexemes pieces.now) names.old names.new from f) }
+    ensures grows { Grows names.old names.new }
+    ensures further { IfOk result (λ r. from < r.end) }
+    ensures within { IfOk result (λ r. r.end ≤ length pieces.now) }
+    ensures node { IfOk result (λ r. r.node + from ≤ node + r.end) }
+    ensures names { IfOk result (λ r. length names.new + from ≤ length names.old + r.end) }
+{
+    let Some(keyword) = key_at(pieces, from, Keyword::Var) else {
+        return Err(Fault::Unexpected(from));
+    };
+    let space = maybe_space(pieces, names, from + 1, node)?;
+    let name = name(pieces, names, space.end, space.node)?;
+    let ty = maybe_type(alloc, pieces, names, name.end, name.node)?;
+    let value = match maybe_value(alloc, pieces, names, ty.end, ty.node) {
+        Ok(value) => value,
+        Err(fault) => return refuse(fault, ty),
+    };
+    Ok(Read {
+        tree: Var {
+            keyword,
+            space: space.tree,
+            name: name.tree,
+            ty: ty.tree,
+            value: value.tree,
+        },
+        end: value.end,
+        node: value.node,
+    })
+}

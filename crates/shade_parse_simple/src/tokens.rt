@@ -1,0 +1,66 @@
+//! Names, and the token that closes a list.
+
+ghost use Rattle.std.specs.Prelude.{◌≡◌, ◌+◌, ◌<◌, ◌≤◌, ◌^◌, [], length, IfOk, MatchResult};
+ghost use Rattle.shade_ast.specs.declared.lexeme.Sign.TheVariants as sign_;
+ghost use Rattle.shade_ast.specs.Names.{Grows};
+ghost use Rattle.shade_ast.specs.Statements.{Name};
+ghost use Rattle.shade_ast.specs.Reads.{Reads};
+ghost use Rattle.shade_parse_simple.specs.Readings.{named_seen, ReadsOf};
+ghost use Rattle.shade_parse_simple.specs.Rests.{Ending};
+ghost use Rattle.shade_parse_expr.specs.Parts.{Faults};
+ghost use Rattle.shade_cursor.specs.Shown.{lexemes};
+
+use crate::read::Read;
+use shade_ast::{Named, Names, Sign};
+use shade_cursor::builds::number;
+use shade_cursor::part::Fault;
+use shade_cursor::piece::{Piece, mark_at, word_at};
+
+/// A name.
+pub fn name(
+    pieces: &[Piece],
+    names: &mut Names,
+    from: usize,
+    node: u32,
+) -> Result<Read<Named>, Fault>
+    requires within { from ≤ length pieces.now }
+    requires node { node + length pieces.now < 2 ^ 32 + from }
+    requires names { length names.old + length pieces.now < 2 ^ 32 + from }
+    ensures tree { MatchResult result (λ r. ReadsOf named_seen Name 0 (lexemes pieces.now) names.new from node r) (λ f. Faults Name 0 (lexemes pieces.now) names.old names.new from f) }
+    ensures grows { Grows names.old names.new }
+    ensures further { IfOk result (λ r. from < r.end) }
+    ensures within { IfOk result (λ r. r.end ≤ length pieces.now) }
+    ensures node { IfOk result (λ r. r.node + from ≤ node + r.end) }
+    ensures names { IfOk result (λ r. length names.new + from ≤ length names.old + r.end) }
+{
+    let Some((text, place)) = word_at(pieces, from) else {
+        return Err(Fault::Unexpected(from));
+    };
+    let name = number(names, text)?;
+    Ok(Read {
+        tree: Named { node, place, name },
+        end: from + 1,
+        node: node + 1,
+    })
+}
+
+/// A comma, which may be left out, and a mark that closes: whether the comma stands there, and the number of the token
+/// behind the mark.
+pub fn closed(pieces: &[Piece], from: usize, closer: Sign) -> Result<(bool, usize), Fault>
+    requires within { from ≤ length pieces.now }
+    requires closer { ¬ (closer ≡ sign_.Comma) }
+    ensures tree { MatchResult result (λ r. Reads (Ending closer) 0 (lexemes pieces.now) from r.0 r.1) (λ f. Faults (Ending closer) 0 (lexemes pieces.now) [] [] from f) }
+    ensures further { IfOk result (λ r. from < r.1) }
+    ensures within { IfOk result (λ r. r.1 ≤ length pieces.now) }
+{
+    if let Some(_) = mark_at(pieces, from, closer) {
+        return Ok((false, from + 1));
+    }
+    let Some(_) = mark_at(pieces, from, Sign::Comma) else {
+        return Err(Fault::Unexpected(from));
+    };
+    let Some(_) = mark_at(pieces, from + 1, closer) else {
+        return Err(Fault::Unexpected(from + 1));
+    };
+    Ok((true, from + 2))
+}

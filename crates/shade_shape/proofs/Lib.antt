@@ -1,0 +1,4 @@
+mod EndLaws
+mod FactLaws
+mod StandingLaws
+mod TypeLaws

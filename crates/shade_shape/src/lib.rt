@@ -1,0 +1,18 @@
+//! The test of the shape of a core module: what every layer behind the front end takes for granted.
+//!
+//! Each function decides one demand. The definitions stand in `shade_core` (`specs/HasShape.antt` and what it names).
+#![tactic(auto)]
+
+mod bodies;
+mod facts;
+mod signature;
+mod standing;
+mod switches;
+mod types;
+
+pub use bodies::{are_numbered, ends_with_return};
+pub use facts::{TableFacts, TypeFacts, facts_by, facts_of_types};
+pub use signature::{access_fits, has_lanes, is_pointer, is_signature, may_give, may_take};
+pub use standing::{Listed, statements_of};
+pub use switches::has_one_fallback;
+pub use types::Types;
