@@ -1,9 +1,29 @@
-//! Shelves and sinks.
+//! Decimal numbers, shelves and sinks.
 
-use shade_base::{Failed, FileShelf, MemoryShelf, MemorySink, Shelf, ShelfRefusal, Sink, StdSink};
+use shade_base::{
+    Failed, FileShelf, MemoryShelf, MemorySink, Shelf, ShelfRefusal, Sink, StdSink, decimal_value,
+};
 use std::collections::BTreeMap;
 use std::fs::OpenOptions;
 use std::test::Fail;
+
+const DECIMALS: &[(&str, Option<u32>)] = &[
+    ("0", Some(0)),
+    ("10", Some(10)),
+    ("4294967295", Some(4_294_967_295)),
+    ("4294967296", None),
+    ("01", None),
+    ("1u", None),
+    ("", None),
+];
+
+#[test]
+fn decimals(rt: HostRuntime) -> Result<(), Fail> {
+    for (text, value) in DECIMALS {
+        assert_eq!(rt; decimal_value(text.as_bytes()), *value, "{text}");
+    }
+    Ok(())
+}
 
 #[test]
 fn a_shelf_in_memory(rt: HostRuntime) -> Result<(), Fail> {
