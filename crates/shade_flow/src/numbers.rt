@@ -17,7 +17,7 @@ fn doubled(statement: u32, more: u32) -> Result<u32, AllocError>
     Ok(2 * statement + more)
 }
 
-/// The number of a point. No memory would do for a function with so many statements that it takes more than 32 bits.
+/// Gives the number of a point. One that takes more than 32 bits is answered as want of memory.
 pub fn number_of(point: Point) -> Result<u32, AllocError>
     ensures { IfOk result (λ n. n ≡ number point) }
 {

@@ -14,8 +14,9 @@ use std::alloc::{AllocError, Global};
 ///
 /// What is kept is right for a function whose statements are numbered in structure order.
 ///
-/// Takes time and memory in the order of the function's points and statements that write, times the definitions by 64; one
-/// more pass over a chunk's points for each bit that is found late. No memory would do for a function of 2^31 statements.
+/// Takes memory in the order of the function's points times the definitions by 64. Takes time in that order, and in that of the
+/// statements that write times the definitions. A function of 2^31 statements or more, whose points have no numbers of 32 bits,
+/// is answered as want of memory.
 pub fn reaching(alloc: Global, function: &CoreFunction) -> Result<Reaching, AllocError>
     ensures { IfOk result (λ reaching. IsReachingOf function.now reaching) }
 {

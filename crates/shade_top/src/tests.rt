@@ -83,11 +83,12 @@ fn verdicts(rt: HostRuntime) -> Result<(), Fail> {
     Ok(())
 }
 
-/// What a run of the text by the job prints, and its status; the job may be absent.
+/// What a run of the text by the job prints, and its status; the job may be absent. The reads of these numbers fail.
 fn ran(
     alloc: Global,
     text: Vec<u8>,
     job: Option<&str>,
+    failing: Vec<u64>,
 ) -> Result<(Status, MemorySink), AllocError> {
     let mut texts = BTreeMap::new(alloc);
     let _ = texts.insert(String::from_str(alloc, "a.wgsl")?, text)?;
@@ -95,7 +96,7 @@ fn ran(
         let steps = String::from_str(alloc, job)?.into_bytes();
         let _ = texts.insert(String::from_str(alloc, "a.job")?, steps)?;
     }
-    let mut shelf = MemoryShelf::new(alloc, texts, Vec::new(alloc));
+    let mut shelf = MemoryShelf::new(alloc, texts, failing);
     let mut out = MemorySink::new(alloc, 4096, Vec::new(alloc))?;
     let words = words_of(alloc, &["run", "a.wgsl", "a.job"])?;
     let status = serve(alloc, &words, &mut shelf, &mut out);
@@ -141,10 +142,21 @@ fn runs(rt: HostRuntime) -> Result<(), Fail> {
         (clean, None, 5, "fault read a.job\n"),
     ];
     for (body, job, status, text) in rows {
-        let (got, out) = ran(alloc, text_of(alloc, body)?, job)?;
+        let (got, out) = ran(alloc, text_of(alloc, body)?, job, Vec::new(alloc))?;
         assert_eq!(rt; got, Status(status), "{body}");
         assert_eq!(rt; out.bytes(), text.as_bytes(), "{body}");
     }
+    Ok(())
+}
+
+/// The second read of a run is that of its job: the shader is read once.
+#[test]
+fn a_job_that_cannot_be_read(rt: HostRuntime) -> Result<(), Fail> {
+    let alloc = rt.alloc();
+    let text = text_of(alloc, "  workgroupBarrier();\n")?;
+    let (got, out) = ran(alloc, text, Some(""), vec![in alloc; 1]?)?;
+    assert_eq!(rt; got, Status::UNREAD);
+    assert_eq!(rt; out.bytes(), b"fault read a.job\n".as_slice());
     Ok(())
 }
 
