@@ -1,5 +1,6 @@
 mod EndLaws
 mod FactLaws
+mod KeyLaws
 mod ScopeLaws
 mod StandingLaws
 mod Tells
