@@ -1,3 +1,4 @@
+mod DepthLaws
 mod EndLaws
 mod FactLaws
 mod KeyLaws
