@@ -1,6 +1,6 @@
 -- No key stands twice, one key after another.
 use Rattle.std.proofs.Common.{◌≡◌, refl, sym, ap, subst, ◌∙◌, ℕ, zero, suc, ◌+◌, ◌<◌, ◌≤◌, ℤ, Bool, true, false, ◌||◌, List, [], ◌∷◌, length, get_or, take, Some, inl, inr, arith}
-use Rattle.std.specs.Prelude.{not, pos, slice_get, ◌⊎◌}
+use Rattle.std.specs.Prelude.{not, pos, slice_get}
 use Rattle.std.specs.List.{list_any}
 use Rattle.std.specs.Ordering.{int_cmp, int_eq}
 use Rattle.std.specs.BTreeSet.{BTreeSet, contains}

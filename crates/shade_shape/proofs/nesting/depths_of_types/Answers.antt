@@ -1,6 +1,6 @@
-use Rattle.std.proofs.Common.{◌≡◌, ap, ◌∙◌, ◌++◌, ◌∷◌, [], arith}
+use Rattle.std.proofs.Common.{ap, ◌∙◌, ◌++◌, ◌∷◌, [], arith}
 use Rattle.shade_shape.specs.Depths.{depth_by}
-use Rattle.shade_shape.proofs.DepthLaws.{depths_step, depths_end}
+use Rattle.shade_shape.proofs.DepthLaws.{depths_step}
 use Rattle.shade_shape.proofs.nesting.depths_of_types.Goals as goal
 
 pub types-preserved : goal.types-preserved
