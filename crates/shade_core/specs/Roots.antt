@@ -1,16 +1,15 @@
 -- The variables of a module. (WGSL, "Address Spaces" and "Module Scope Variables".)
-use Rattle.std.specs.Prelude.{◌≡◌, Bool, true, false, ◌&&◌, ◌||◌, not, ◌⊎◌, Option, None, Some, IsTrue}
+use Rattle.std.specs.Prelude.{◌<◌, length, Bool, true, false, ◌&&◌, ◌||◌, not, Option, None, Some, IsTrue}
 use Rattle.shade_values.specs.declared.types.Space.{Space}
 use Rattle.shade_values.specs.declared.types.Space.TheVariants as space
 use Rattle.shade_values.specs.declared.types.Access.{Access}
 use Rattle.shade_values.specs.declared.types.Access.TheVariants.{Read, ReadWrite}
-use Rattle.shade_values.specs.declared.types.ShadeType.{ShadeType}
 use Rattle.shade_values.specs.declared.value.Value.{Value}
 use Rattle.shade_values.specs.Table.{Table}
-use Rattle.shade_values.specs.Shape.{Shape}
+use Rattle.shade_values.specs.Shape.{Shape, shape_of}
 use Rattle.shade_values.specs.Typed.{IsValueOf}
 use Rattle.shade_core.specs.declared.module.Root.{Root}
-use Rattle.shade_core.specs.Types.{is_data, is_constructible, is_buffer, holds_bool, holds_atomic, type_at, spelled}
+use Rattle.shade_core.specs.Types.{is_data, is_constructible, is_buffer, holds_bool, holds_atomic}
 
 -- the memory that a space has may be read alone, written, or either
 abbrev pub access_fits : Space → Access → Bool
@@ -39,9 +38,12 @@ MayBegin shape in_space None = Unit {0}
 MayBegin shape space.Private (Some value) = IsValueOf shape value
 MayBegin shape _ (Some value) = ⊥
 
-pub record IsRoot (t : Table) (root : Root) : Type 0 where
-  pub type : ShadeType
-  pub at : type_at t root.ty ≡ Some type
+-- the space, the access and the type of a variable go together
+pub record IsPlaced (t : Table) (root : Root) : Type 0 where
+  pub known : root.ty.0 < length t.types
   pub access : IsTrue (access_fits root.space root.access)
-  pub takes : IsTrue (space_takes root.space root.access (spelled t type))
-  pub begins : MayBegin (spelled t type) root.space root.initial
+  pub takes : IsTrue (space_takes root.space root.access (shape_of t root.ty))
+
+pub record IsRoot (t : Table) (root : Root) : Type 0 where
+  pub placed : IsPlaced t root
+  pub begins : MayBegin (shape_of t root.ty) root.space root.initial

@@ -13,11 +13,11 @@ use Rattle.shade_values.specs.declared.types.ShadeType.{ShadeType}
 use Rattle.shade_values.specs.declared.types.ShadeType.TheVariants as type
 use Rattle.shade_values.specs.declared.types.TypeId.{TypeId}
 use Rattle.shade_values.specs.Table.{Table, StructView, members_at}
-use Rattle.shade_values.specs.Shape.{Shape, Shapes, plain, vector, array, pointer, atomic, exchanged, structure, no_member, member, shape_at, member_shapes, spell, with_spelling, shapes}
+use Rattle.shade_values.specs.Shape.{Shape, plain, vector, array, pointer, atomic, exchanged, structure, shape_at, member_shapes, spell, with_spelling, shapes}
 use Rattle.shade_values.specs.Layouts.{are_loadable}
-use Rattle.shade_core.specs.Types.{is_data, are_data, is_endless, may_end_endless, holds_bool, hold_bool, hold_atomic, is_word, is_known}
+use Rattle.shade_core.specs.Types.{is_data, are_data, is_endless, may_end_endless, hold_bool, hold_atomic, is_word}
 use Rattle.shade_shape.specs.declared.facts.TypeFacts.{TypeFacts}
-use Rattle.shade_shape.specs.Facts.{facts_of, fact_in, scalar_facts, atomic_facts, exchanged_facts, array_facts, runtime_facts, pointer_facts, is_none, ends_by, struct_facts, facts_by, is_bool}
+use Rattle.shade_shape.specs.Facts.{facts_of, fact_in, scalar_facts, atomic_facts, exchanged_facts, array_facts, runtime_facts, ends_by, struct_facts, facts_by}
 
 pub fact_at : (known : List Shape) (id : TypeId) → fact_in (map facts_of known) id ≡ facts_of (shape_at known id)
 fact_at known id = get_or-map_same facts_of known id.0 pointer

@@ -1,5 +1,7 @@
+mod DepthLaws
 mod EndLaws
 mod FactLaws
+mod KeyLaws
 mod ScopeLaws
 mod StandingLaws
 mod Tells

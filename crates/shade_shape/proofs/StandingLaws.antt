@@ -1,13 +1,13 @@
 -- The statements of a list, one after another.
 use Rattle.std.proofs.Common.{◌≡◌, refl, sym, ap, ◌∙◌, ℕ, ◌+◌, ◌<◌, List, [], ◌∷◌, ◌++◌, length, get_or, drop, map, append_assoc, Option}
 use Rattle.shade_core.specs.declared.statement.Operand.{Operand}
-use Rattle.shade_core.specs.declared.statement.Act.{Act, Act-F, out-Act, map-Act}
+use Rattle.shade_core.specs.declared.statement.Act.{Act, Act-F, out-Act}
 use Rattle.shade_core.specs.declared.statement.Act.TheVariants.{If, outs-If, Switch, outs-Switch, Loop, outs-Loop}
 use Rattle.shade_core.specs.declared.statement.Act.TheOpen as act
 use Rattle.shade_core.specs.declared.statement.CoreStatement.{CoreStatement}
 use Rattle.shade_core.specs.declared.statement.SwitchPart.{SwitchPart, out-SwitchPart, fold_out-SwitchPart}
 use Rattle.shade_core.specs.Code.{Code, done, parts_from, act_before, statement_before, part_before, act_code, statement_code, part_code, code_of}
-use Rattle.shade_core.specs.Standing.{Case, Standing, standing, cases_of, case_of, switches, act_head, head_of, by_itself, statements}
+use Rattle.shade_core.specs.Standing.{Standing, standing, cases_of, case_of, switches, act_head, by_itself, statements}
 use Rattle.shade_core.proofs.CodeLaws.{layer, act_is, statement_is, drop_here}
 use Rattle.shade_shape.specs.Within.{within}
 

@@ -1,6 +1,6 @@
 -- What is kept of a type by its id.
-use Rattle.std.proofs.Common.{◌≡◌, refl, sym, ap, subst, ◌∙◌, ℕ, ◌<◌, true, ◌&&◌, List, length, map, Some}
-use Rattle.std.specs.Prelude.{◌↔◌, IsTrue, slice_get}
+use Rattle.std.proofs.Common.{◌≡◌, sym, ap, subst, ◌∙◌, ◌<◌, List, length, Some}
+use Rattle.std.specs.Prelude.{◌↔◌, IsTrue}
 use Rattle.std.proofs.lemmas.List.{length-map}
 use Rattle.std.proofs.lemmas.Option.{slice_get-get_or, slice_get_within}
 use Rattle.shade_values.specs.declared.types.ShadeType.{ShadeType}
@@ -8,7 +8,7 @@ use Rattle.shade_values.specs.declared.types.ShadeType.TheVariants as type
 use Rattle.shade_values.specs.declared.types.Scalar.TheVariants as scalar
 use Rattle.shade_values.specs.declared.types.TypeId.{TypeId}
 use Rattle.shade_values.specs.Table.{Table}
-use Rattle.shade_values.specs.Shape.{Shape, pointer, shape_of, shapes}
+use Rattle.shade_values.specs.Shape.{shape_of, shapes}
 use Rattle.shade_values.proofs.ShapeLaws.{length-shapes, shape_is}
 use Rattle.shade_core.specs.Types.{is_constructible, type_at, spelled, NamesHeld}
 use Rattle.shade_shape.specs.declared.facts.TypeFacts.{TypeFacts}

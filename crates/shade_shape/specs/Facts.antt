@@ -1,5 +1,5 @@
 -- What the code keeps of each type of a table, from what it keeps of the types before it.
-use Rattle.std.specs.Prelude.{◌≡◌, ℕ, map, Bool, true, false, ◌&&◌, ◌||◌, List, [], ◌∷◌, slice_index_or, if◌then◌else◌}
+use Rattle.std.specs.Prelude.{◌≡◌, ℕ, map, Bool, true, false, List, [], ◌∷◌, slice_index_or, if◌then◌else◌}
 use Rattle.std.specs.List.{list_all, list_any}
 use Rattle.shade_values.specs.declared.types.Scalar.{Scalar}
 use Rattle.shade_values.specs.declared.types.Scalar.TheVariants as scalar

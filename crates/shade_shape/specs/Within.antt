@@ -1,7 +1,7 @@
 -- The statements of the parts of a list's first statement.
 use Rattle.std.specs.Prelude.{ℕ, Bool, true, ◌&&◌, List, [], ◌++◌}
 use Rattle.std.specs.List.{list_all}
-use Rattle.shade_core.specs.Code.{Code, done, plain, jump, call, branch, switch, loop, no_part, part}
+use Rattle.shade_core.specs.Code.{Code, plain, jump, call, branch, switch, loop}
 use Rattle.shade_core.specs.Standing.{Standing, statements}
 use Rattle.shade_core.specs.Scopes.{argument_names, in_scope, jump_names, listed, maybe_names, names_one, plain_names, unskipped}
 

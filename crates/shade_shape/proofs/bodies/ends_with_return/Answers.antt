@@ -1,5 +1,4 @@
-use Rattle.std.proofs.Common.{◌∙◌, sym, ap, drop}
-use Rattle.shade_shape.proofs.EndLaws.{end_step, end_all}
+use Rattle.shade_shape.proofs.EndLaws.{end_step}
 use Rattle.shade_shape.proofs.bodies.ends_with_return.Goals as goal
 
 pub statements-preserved : goal.statements-preserved

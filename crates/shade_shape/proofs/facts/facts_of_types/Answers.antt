@@ -1,4 +1,4 @@
-use Rattle.std.proofs.Common.{◌≡◌, ap, ◌∙◌, ◌++◌, ◌∷◌, [], arith}
+use Rattle.std.proofs.Common.{ap, ◌∙◌, ◌++◌, ◌∷◌, [], arith}
 use Rattle.shade_shape.specs.Facts.{facts_by}
 use Rattle.shade_shape.proofs.FactLaws.{facts_step}
 use Rattle.shade_shape.proofs.facts.facts_of_types.Goals as goal

@@ -1,4 +1,4 @@
-use Rattle.std.proofs.Common.{◌≡◌, sym, ap, ◌∙◌}
+use Rattle.std.proofs.Common.{sym, ap, ◌∙◌}
 use Rattle.shade_core.specs.Code.{code_of}
 use Rattle.shade_core.specs.Scopes.{continues}
 use Rattle.shade_shape.proofs.ScopeLaws.{continues_here, continues_next, part_continues_next}

@@ -1,8 +1,7 @@
-use Rattle.std.proofs.Common.{◌≡◌, subst, arith}
+use Rattle.std.proofs.Common.{subst, arith}
 use Rattle.std.specs.Prelude.{All}
 use Rattle.std.proofs.lemmas.List.{take_all}
 use Rattle.std.proofs.lemmas.List.Elements.{All-more}
-use Rattle.shade_core.specs.HasShape.{MayTake}
 use Rattle.shade_core.specs.Types.{NamesHeld}
 use Rattle.shade_shape.proofs.Tells.{confirms}
 use Rattle.shade_shape.proofs.signature.are_held.Goals as goal

@@ -1,6 +1,5 @@
 use Rattle.std.proofs.Common.{take}
 use Rattle.std.specs.Prelude.{All}
-use Rattle.shade_core.specs.HasShape.{MayTake}
 use Rattle.shade_core.specs.Types.{NamesHeld}
 use Rattle.shade_shape.proofs.signature.are_held.Given as goal
 

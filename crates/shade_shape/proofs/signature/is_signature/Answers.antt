@@ -1,5 +1,5 @@
-use Rattle.std.proofs.Common.{◌≡◌, sym, subst}
-use Rattle.std.specs.Prelude.{All, IsTrue, ◌↔◌}
+use Rattle.std.proofs.Common.{sym, subst}
+use Rattle.std.specs.Prelude.{All}
 use Rattle.shade_core.specs.HasShape.{MayTake}
 use Rattle.shade_core.specs.Types.{NamesHeld}
 use Rattle.shade_shape.proofs.Tells.{refutes}

@@ -1,7 +1,6 @@
 use Rattle.std.proofs.Common.{take}
 use Rattle.std.specs.Prelude.{All}
 use Rattle.shade_core.specs.HasShape.{MayTake}
-use Rattle.shade_core.specs.Types.{NamesHeld}
 use Rattle.shade_shape.proofs.signature.may_take_all.Given as goal
 
 abbrev pub invariant-loop-param : goal.invariant-loop-param

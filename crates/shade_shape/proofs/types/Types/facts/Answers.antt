@@ -1,4 +1,4 @@
-use Rattle.std.proofs.Common.{◌≡◌, ap, ◌∙◌}
+use Rattle.std.proofs.Common.{ap, ◌∙◌}
 use Rattle.shade_values.specs.Shape.{shape_of}
 use Rattle.shade_shape.specs.Facts.{fact_in, facts_of}
 use Rattle.shade_shape.proofs.TypeLaws.{facts_at}

@@ -1,8 +1,6 @@
-use Rattle.std.proofs.Common.{◌≡◌, ◌<◌, ◌&&◌, length, sym, ap, subst, ◌∙◌, false, arith}
-use Rattle.std.specs.Prelude.{IsTrue, ◌↔◌}
-use Rattle.shade_values.specs.Shape.{shape_of}
-use Rattle.shade_core.specs.Types.{is_constructible, NamesHeld}
-use Rattle.shade_shape.specs.Facts.{facts_of, AreFacts}
+use Rattle.std.proofs.Common.{◌&&◌, sym, ap, subst, ◌∙◌, false, arith}
+use Rattle.std.specs.Prelude.{IsTrue}
+use Rattle.shade_shape.specs.Facts.{AreFacts}
 use Rattle.shade_shape.proofs.TypeLaws.{held_tells, held_within}
 use Rattle.shade_shape.proofs.types.Types.is_held.Goals as goal
 
