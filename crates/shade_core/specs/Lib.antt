@@ -10,4 +10,3 @@ pub mod Scopes
 pub mod Chains
 pub mod Limits
 pub mod HasShape
-pub mod Numbers

@@ -8,7 +8,7 @@ use Rattle.shade_core.specs.declared.module.CoreFunction.{CoreFunction}
 use Rattle.shade_core.specs.declared.statement.Base.{Base}
 use Rattle.shade_core.specs.declared.statement.Base.TheVariants.{Pointee}
 use Rattle.shade_core.specs.Code.{Code, code_of}
-use Rattle.shade_core.specs.Numbers.{IsNumbered}
+use Rattle.shade_flow.proofs.Counts.{IsNumbered, is_numbered}
 use Rattle.shade_flow.specs.declared.definition.Definition.{Definition}
 use Rattle.shade_flow.specs.declared.definition.Definition.TheVariants as definition
 use Rattle.shade_flow.specs.declared.definition.Defined.{Defined}
@@ -25,6 +25,7 @@ use Rattle.shade_flow.specs.Tables.{number, made_at, begun_at, IsBitOf, IsStop}
 use Rattle.shade_flow.specs.Writes.{defined, writes_of, statement_of}
 use Rattle.shade_flow.specs.Definitions.{tracked, all_kept, definitions_of}
 use Rattle.shade_flow.specs.Routes.{IsRoutesOf, IsSearched, defined_in}
+use Rattle.shade_flow.specs.Exact as exact
 use Rattle.shade_flow.specs.Exact.{IsChunkOf, AreChunksOf, AreKeptOf, IsBefore}
 use Rattle.shade_flow.proofs.Members.{in_left, in_right, in_slice}
 use Rattle.shade_flow.proofs.TableLaws.{same_point}
@@ -155,7 +156,7 @@ module _ (body : Code) (numbered : IsNumbered body) (routes : Routes) (r : IsRou
 
 pub are_kept : (function : CoreFunction) (routes : Routes) (definitions : List Defined) (chunks : List Chunk) → IsRoutesOf (code_of function.body) routes
     → definitions ≡ all_kept function routes.writes.items → defined_in chunks ≡ definitions → All (IsSearched routes) chunks → AreKeptOf function chunks
-are_kept function routes definitions chunks r e f all = record { edges = routes.graph.edges; ways = r.ways; right = λ numbered. chunks_right (code_of function.body) numbered routes r chunks all stand; all = is }
+are_kept function routes definitions chunks r e f all = record { edges = routes.graph.edges; ways = r.ways; right = λ numbered. chunks_right (code_of function.body) (is_numbered (code_of function.body) numbered) routes r chunks all stand; all = is }
   where
     is : defined_in chunks ≡ definitions_of function
     is = f ∙ (e ∙ ap (λ (ws : List Write). all_kept function ws) r.writes)
@@ -164,14 +165,14 @@ are_kept function routes definitions chunks r e f all = record { edges = routes.
     stand d m = all_stand function (writes_of (code_of function.body)) d (subst (λ (l : List Defined). In d l) is m)
 
 pub is_before : (statement : ℕ) (variable : Base) (chunks : List Chunk) (found : List Definition) (point : ℕ) → point ≡ number (At statement) → found ≡ before_of point variable chunks
-    → (function : CoreFunction) → AreKeptOf function chunks → IsNumbered (code_of function.body) → tracked function variable ≡ true → IsBefore function statement variable found
+    → (function : CoreFunction) → AreKeptOf function chunks → exact.IsNumbered (code_of function.body) → tracked function variable ≡ true → IsBefore function statement variable found
 is_before statement variable chunks found point p e function k numbered t = subst (λ (l : List Definition). IsBefore function statement variable l) (sym (e ∙ ap (λ (n : ℕ). before_of n variable chunks) p)) (record {
   exact = λ by. (
     all_sound (code_of function.body) k.edges k.ways (At statement) variable chunks (k.right numbered) by,
     λ r. all_complete (code_of function.body) k.edges k.ways (At statement) variable chunks (k.right numbered) by (there by r) r,
   );
-  ascends = before_ascends (number (At statement)) variable chunks (subst DefinedAscend (sym k.all) (definitions_ascend function numbered));
+  ascends = before_ascends (number (At statement)) variable chunks (subst DefinedAscend (sym k.all) (definitions_ascend function (is_numbered (code_of function.body) numbered)));
 })
   where
     there : (by : Definition) → Reaches (code_of function.body) variable by (At statement) → In (defined variable by) (defined_in chunks)
-    there by r = subst (λ (l : List Defined). In (defined variable by) l) (sym k.all) (reaching_there function numbered variable t by (At statement) r)
+    there by r = subst (λ (l : List Defined). In (defined variable by) l) (sym k.all) (reaching_there function (is_numbered (code_of function.body) numbered) variable t by (At statement) r)

@@ -9,7 +9,7 @@ use Rattle.shade_core.specs.declared.statement.Argument.TheVariants as argument
 use Rattle.shade_core.specs.declared.module.CoreFunction.{CoreFunction}
 use Rattle.shade_core.specs.declared.module.CoreParam.{CoreParam}
 use Rattle.shade_core.specs.Code.{Code, code_of}
-use Rattle.shade_core.specs.Numbers.{CountFrom, IsNumbered}
+use Rattle.shade_flow.proofs.Counts.{CountFrom, IsNumbered}
 use Rattle.shade_flow.specs.declared.definition.Definition.{Definition}
 use Rattle.shade_flow.specs.declared.definition.Definition.TheVariants as definition
 use Rattle.shade_flow.specs.declared.definition.Defined.{Defined}

@@ -10,6 +10,7 @@ pub mod EdgeLaws
 pub mod ExactLaws
 pub mod WriteWalks
 pub mod Variables
+pub mod Counts
 pub mod Marks
 pub mod BitLaws
 pub mod DefinitionLaws

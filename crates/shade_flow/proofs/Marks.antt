@@ -8,7 +8,7 @@ use Rattle.shade_core.specs.declared.statement.View.{View}
 use Rattle.shade_core.specs.declared.statement.Argument.{Argument}
 use Rattle.shade_core.specs.declared.statement.Argument.TheVariants as argument
 use Rattle.shade_core.specs.Code.{Plain, Set, Load, Declare, Store, Atomic, Barrier, UniformLoad, Length, Code, done, plain, jump, call, branch, switch, loop, no_part, part}
-use Rattle.shade_core.specs.Numbers.{numbers_of, CountFrom, IsNumbered}
+use Rattle.shade_flow.proofs.Counts.{numbers_of, CountFrom, IsNumbered}
 use Rattle.shade_flow.specs.declared.definition.Definition.{Definition}
 use Rattle.shade_flow.specs.declared.definition.Definition.TheVariants as definition
 use Rattle.shade_flow.specs.declared.definition.Defined.{Defined}

@@ -1,9 +1,9 @@
 -- Chunks of definitions whose rows are right, and the list that is made of them.
-use Rattle.std.specs.Prelude.{◌≡◌, ℕ, ◌↔◌, true, Some, slice_get, List, [], ◌∷◌}
+use Rattle.std.specs.Prelude.{◌≡◌, ℕ, ◌↔◌, true, IsTrue, Some, slice_get, List, [], ◌∷◌}
 use Rattle.shade_core.specs.declared.module.CoreFunction.{CoreFunction}
 use Rattle.shade_core.specs.declared.statement.Base.{Base}
 use Rattle.shade_core.specs.Code.{Code, code_of}
-use Rattle.shade_core.specs.Numbers.{IsNumbered}
+use Rattle.shade_core.specs.Standing.{statements, are_numbered}
 use Rattle.shade_flow.specs.declared.definition.Definition.{Definition}
 use Rattle.shade_flow.specs.declared.definition.Defined.{Defined}
 use Rattle.shade_flow.specs.declared.point.Point.TheVariants.{At}
@@ -28,6 +28,10 @@ pub record IsChunkOf (body : Code) (edges : List (ℕ × ℕ)) (chunk : Chunk) :
 abbrev pub AreChunksOf : Code → List (ℕ × ℕ) → List Chunk → Type 0
 AreChunksOf body edges [] = Unit {0}
 AreChunksOf body edges (chunk ∷ later) = IsChunkOf body edges chunk × AreChunksOf body edges later
+
+-- the statements of a body are numbered 0, 1, 2 and so on in structure order, as the shape of a module has it
+abbrev pub IsNumbered : Code → Type 0
+IsNumbered body = IsTrue (are_numbered 0 (statements body))
 
 -- What is kept of a function: all its definitions in order, each with right bits if the function's statements are numbered in order.
 pub record AreKeptOf (function : CoreFunction) (chunks : List Chunk) : Type 0 where
