@@ -1,6 +1,9 @@
 -- Rows hold the edges that they were made of, and a row is the targets of its node.
-use Rattle.std.proofs.Common.{◌≡◌, ℕ, zero, suc, ◌+◌, ◌-◌, ◌<◌, ◌≤◌, List, [], ◌∷◌, length, map, get_or, take, drop, refl, ap, sym, ◌∙◌, arith, subst, inl, inr}
+use Rattle.std.proofs.Common.{◌≡◌, ℕ, zero, suc, ◌+◌, ◌-◌, ◌<◌, ◌≤◌, List, [], ◌∷◌, ◌++◌, length, map, get_or, take, drop, refl, ap, sym, ◌∙◌, arith, subst, inl, inr}
 use Rattle.std.specs.Prelude.{Contains, All}
+use Rattle.std.proofs.Math.ListN.{get_or-append}
+use Rattle.std.proofs.Math.Nat.{eq-or-lt_of_le}
+use Rattle.std.proofs.Math.Seq.{get_or-append_seam}
 use Rattle.std.specs.List.Sorted.{IsStrictlyIncreasing}
 use Rattle.std.proofs.lemmas.List.{get_or_default, get_or_read, get_or-take, get_or-drop, length-take-le, length-drop, ext_get_or, length-map}
 use Rattle.std.proofs.lemmas.Bool.Decides.{leb_tells}
@@ -222,3 +225,24 @@ rows_made edges nodes starts asc a joined = made (omega (arith, a.long))
       rows = rw (edges_of_rows edges nodes starts a joined, is) a;
       joined = rw (edges_of_rows edges nodes starts a joined, is) joined;
     }
+
+-- ---- the starts of rows, one after another
+
+pub first_start : (edges : List (ℕ × ℕ)) → IsRowStart edges 0 0
+first_start edges = record { within = omega arith; before = λ k h. absurd (omega (arith, h)); after = λ k from within. omega arith }
+
+pub starts_begin : (edges : List (ℕ × ℕ)) (starts : List ℕ) → starts ≡ 0 ∷ [] → (node : ℕ) → node ≤ 0 → IsRowStart edges node (get_or starts node 0)
+starts_begin edges starts is zero h = subst (λ x. IsRowStart edges 0 (get_or x 0 0)) (sym is) (first_start edges)
+starts_begin edges starts is (suc node) h = absurd (omega (arith, h))
+
+pub starts_more : (edges : List (ℕ × ℕ)) (starts more : List ℕ) (last start : ℕ) → length starts ≡ last + 1 → more ≡ starts ++ start ∷ []
+    → ((node : ℕ) → node ≤ last → IsRowStart edges node (get_or starts node 0)) → IsRowStart edges (last + 1) start
+    → (node : ℕ) → node ≤ last + 1 → IsRowStart edges node (get_or more node 0)
+starts_more edges starts more last start long is each here node h =
+    subst (λ x. IsRowStart edges node (get_or x node 0)) (sym is)
+    (elim (eq-or-lt_of_le h) as (λ _. IsRowStart edges node (get_or (starts ++ start ∷ []) node 0)) [
+      | inl same ↦ (
+          let at : get_or (starts ++ start ∷ []) (last + 1) 0 ≡ start = ap (λ n. get_or (starts ++ start ∷ []) n 0) (sym long) ∙ get_or-append_seam starts start [] 0 in
+          subst (λ n. IsRowStart edges n (get_or (starts ++ start ∷ []) n 0)) (sym same) (subst (IsRowStart edges (last + 1)) (sym at) here))
+      | inr below ↦ subst (IsRowStart edges node) (sym (get_or-append starts (start ∷ []) 0 node (omega (arith, below, long)))) (each node (omega (arith, below)))
+    ])

@@ -1,6 +1,7 @@
 -- A breadth-first search: what marking a node keeps, and what it knows at its end.
 use Rattle.std.proofs.Common.{◌≡◌, ℕ, zero, suc, ◌+◌, ◌<◌, ◌≤◌, List, [], ◌∷◌, ◌++◌, length, replicate, Option, None, Some, refl, ap, sym, ◌∙◌, arith, subst, inl, inr, length-append}
-use Rattle.std.specs.Prelude.{slice_get, slice_set, ◌≢◌, ◌⊎◌, Contains}
+use Rattle.std.specs.Prelude.{true, false, slice_get, slice_set, ◌≢◌, ◌⊎◌, Contains}
+use Rattle.std.specs.Option.{is_some}
 use Rattle.std.proofs.lemmas.Bool.Decides.{eqb_tells}
 use Rattle.std.proofs.lemmas.List.{length-replicate, length-set}
 use Rattle.std.proofs.lemmas.Option.{slice_get-get_or, slice_get_within}
@@ -313,3 +314,15 @@ search-end edges nodes target distances found next s all = record { long = s.lon
     none node m (first ∷ rest) p =
         let n : IsMarkedWithin distances node (length rest) = within node rest p.1 in
         cc (n.1, m)
+
+-- ---- one node
+
+pub marked_already : (distances : List (Option ℕ)) (found : List ℕ) (node distance : ℕ) (mark : Option ℕ) → slice_get distances node ≡ Some mark → is_some mark ≡ true
+    → Marks distances found node distance distances found
+marked_already distances found node distance (Some other) at some = inr (other, at, refl, refl)
+marked_already distances found node distance None at some = absurd (cc)
+
+pub marked_now : (distances : List (Option ℕ)) (found more : List ℕ) (node distance : ℕ) (mark : Option ℕ) → slice_get distances node ≡ Some mark → is_some mark ≡ false
+    → more ≡ found ++ node ∷ [] → Marks distances found node distance (slice_set distances node (Some distance)) more
+marked_now distances found more node distance None at none listed = inl (at, refl, listed)
+marked_now distances found more node distance (Some other) at none listed = absurd (cc)
