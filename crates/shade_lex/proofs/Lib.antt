@@ -10,3 +10,4 @@ pub mod ScanLaws
 pub mod ScanSteps
 pub mod ScanNext
 pub mod PairLaws
+pub mod Turns

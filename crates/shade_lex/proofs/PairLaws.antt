@@ -4,7 +4,7 @@ use Rattle.std.specs.Prelude.{◌&&◌, ◌||◌, ◌==◌, slice_get}
 use Rattle.std.proofs.lemmas.Bool.Decides.{eqb_tells}
 use Rattle.shade_lex.specs.declared.role.Role.{Role}
 use Rattle.shade_lex.specs.declared.token.Token.{Token}
-use Rattle.shade_lex.specs.Templates.{role_at, is_greater, is_joined, is_reset_role, is_reset, depth, cuts, openers, greaters, IsOpen, IsPair, closes, AreClosers, pairs_from, pair_of, roles_from, AreTemplates, HaveOneReading}
+use Rattle.shade_lex.specs.Templates.{role_at, is_greater, is_joined, is_reset_role, is_reset, depth, cuts, openers, greaters, IsOpen, IsPair, closes, AreClosers, pairs_from, pair_of, roles_from, HaveOneReading}
 use Rattle.shade_lex.proofs.ScanLaws.{same_test, closes_some}
 
 -- ---- what is told of a token hangs on the tokens before it that close
