@@ -18,7 +18,7 @@ use shade_values::{Op, Scalar, ShadeType, Space, TypeTable};
 use std::alloc::Global;
 
 /// What an atomic function takes behind its pointer.
-#[derive(Clone, Copy, Debug, PartialEq, Eq)]
+#[derive(Clone, Copy)]
 pub enum Atomics {
     /// Nothing, and gives the value.
     Load,

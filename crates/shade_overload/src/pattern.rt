@@ -9,7 +9,7 @@ use shade_values::{Scalar, ShadeType};
 use std::alloc::Global;
 
 /// Some of the scalars.
-#[derive(Clone, Copy, Debug, PartialEq, Eq)]
+#[derive(Clone, Copy)]
 pub enum Kind {
     Any,
     Bool,
@@ -36,7 +36,7 @@ impl Kind {
 }
 
 /// A row, for each scalar that it has, and for scalars and vectors alike.
-#[derive(Clone, Copy, Debug, PartialEq, Eq)]
+#[derive(Clone, Copy)]
 pub enum Pattern {
     /// Two alike, or a vector and a scalar, to the wider of them.
     Arithmetic,
