@@ -13,7 +13,7 @@ use sqlite_items::Items;
 use std::alloc::{AllocError, Global};
 
 /// What stands at the front of a text: a blank, a token, or neither, at its end or at a byte that begins no token.
-#[derive(Debug, Drop)]
+#[derive(Drop)]
 pub enum Front {
     Blank,
     Token(Kind),
@@ -21,7 +21,7 @@ pub enum Front {
 }
 
 /// The tokens of a text, and the offset of the first byte that begins none, or the length of the text.
-#[derive(Debug, Drop)]
+#[derive(Drop)]
 pub struct Lexed {
     pub tokens: Items<Token>,
     pub stop: u32,

@@ -16,7 +16,7 @@ use shade_base::Place;
 use shade_values::Name;
 
 /// Why no phrase was read: no phrase goes on with the token at this place, or memory ran out.
-#[derive(Clone, Copy, Debug, PartialEq, Eq)]
+#[derive(Clone, Copy)]
 pub enum SyntaxFault {
     Unexpected(usize),
     NoMemory,

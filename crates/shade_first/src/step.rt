@@ -6,7 +6,7 @@ ghost use Rattle.shade_first.specs.Steps.{kind_of};
 use crate::token::{Kind, Mark};
 
 /// A token that the form fixes: a mark, or a certain word.
-#[derive(Clone, Copy, Debug)]
+#[derive(Clone, Copy)]
 pub enum Step<'t> {
     Mark(Mark),
     Word(&'t [u8]),

@@ -7,7 +7,7 @@ use shade_base::Place;
 use shade_values::Name;
 
 /// A mark.
-#[derive(Clone, Copy, Debug, PartialEq, Eq)]
+#[derive(Clone, Copy, PartialEq, Eq)]
 pub enum Mark {
     At,
     Open,
@@ -20,7 +20,7 @@ pub enum Mark {
 }
 
 /// What a token is: a word or a number, as it is written, or a mark.
-#[derive(Debug, Drop)]
+#[derive(Drop)]
 pub enum Kind {
     Word(Name),
     Number(Name),
@@ -28,7 +28,7 @@ pub enum Kind {
 }
 
 /// A token, and the place where it begins.
-#[derive(Debug, Drop)]
+#[derive(Drop)]
 pub struct Token {
     pub kind: Kind,
     pub place: Place,

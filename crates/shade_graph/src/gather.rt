@@ -13,7 +13,7 @@ use sqlite_items::Items;
 use std::alloc::AllocError;
 
 /// An edge, and the statement that gives it.
-#[derive(Clone, Copy, Debug, PartialEq, Eq)]
+#[derive(Clone, Copy)]
 pub struct GivenEdge {
     pub statement: u32,
     pub from: Node,

@@ -1,4 +1,4 @@
-use Rattle.std.proofs.Common.{◌≡◌, sym, ap, ◌∙◌, subst, ◌+◌, List, [], ◌∷◌, ◌++◌, arith}
+use Rattle.std.proofs.Common.{sym, ap, ◌∙◌, subst, List, [], ◌∷◌, ◌++◌, arith}
 use Rattle.shade_core.specs.declared.statement.CoreStatement.{CoreStatement}
 use Rattle.shade_first.specs.Lowering.{Adds, Lowers, count_of, none}
 use Rattle.shade_first.proofs.Lowered.{count_first, lowers_more, adds_count, added_barrier, added_branch}

@@ -1,4 +1,4 @@
-use Rattle.std.proofs.Common.{sym, subst, List}
+use Rattle.std.proofs.Common.{subst, List}
 use Rattle.std.proofs.lemmas.List.{take_all}
 use Rattle.shade_graph.specs.Numbered.{Pair, IsNumbered}
 use Rattle.shade_graph.proofs.Numbering.{numbered_none, numbered_at}
