@@ -79,7 +79,19 @@ operator_there o p ts w (bit_and_assigns q) = inr (record { token = Mark sign.Am
 operator_there o p ts w (bit_or_assigns q) = inr (record { token = Mark sign.BarEqual p; split = refl; tells = refl })
 operator_there o p ts w (bit_xor_assigns q) = inr (record { token = Mark sign.CaretEqual p; split = refl; tells = refl })
 operator_there o p ts w (shift_left_assigns q) = inr (record { token = Mark sign.ShiftLeftEqual p; split = refl; tells = refl })
-operator_there o p ts w (shift_right_assigns p2 q s a b) = inl (record { part = p; others = Mark sign.Greater q ∷ (Mark sign.Equal s ∷ w); phrase = record { is = refl }; rest = record { part = q; others = Mark sign.Equal s ∷ w; phrase = record { is = refl; next = a }; rest = record { part = s; others = w; phrase = record { is = refl; next = b }; rest = record { same = refl; left = refl } } } })
+operator_there o p ts w (shift_right_assigns p2 q s a b) = inl
+    (record {
+      part = p;
+      others = Mark sign.Greater q ∷ (Mark sign.Equal s ∷ w);
+      phrase = record { is = refl };
+      rest = record {
+        part = q;
+        others = Mark sign.Equal s ∷ w;
+        phrase = record { is = refl; next = a };
+        rest = record
+            { part = s; others = w; phrase = record { is = refl; next = b }; rest = record { same = refl; left = refl } };
+      };
+    })
 
 pub assigning_there : (r : Signed) (ts w : List Lexeme) → Assigning r ts w → Shifts r ts w ⊎ OneSign r ts w
 assigning_there r ts w (plainly p) = inr (record { token = Mark sign.Equal p; split = refl; tells = refl })

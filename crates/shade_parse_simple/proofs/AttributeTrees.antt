@@ -37,10 +37,14 @@ pub attr_keeps : Keeps attr_seen
 attr_keeps = attr_grows
 
 module _ {tokens : List Lexeme} {names : List (List ℕ)} {from node : ℕ} (h : from ≤ length tokens) {p : Place} where
-  pub arguments_tree : {l : Listing} → slice_get tokens from ≡ Some (Mark sign.Open p) → from < l.end → ReadsList (Closed (MaybeListed Expression) (Mark sign.Close)) 0 tokens names (from + 1) node l → MaybeOf arguments_seen (Mark sign.Open) AttrArguments 0 tokens names from node (record { tree = Some (record { items = l.items; trailing = l.trailing }); end = l.end; node = l.node })
+  pub arguments_tree : {l : Listing} → slice_get tokens from ≡ Some (Mark sign.Open p) → from < l.end →
+      ReadsList (Closed (MaybeListed Expression) (Mark sign.Close)) 0 tokens names (from + 1) node l →
+      MaybeOf arguments_seen (Mark sign.Open) AttrArguments 0 tokens names from node (record { tree = Some (record { items = l.items; trailing = l.trailing }); end = l.end; node = l.node })
   arguments_tree is lt x = record { reads = ((p, is), lt, opened_reads arguments_opens (omega arith) h (λ p. refl) p is x.reads); known = x.known; nodes = x.nodes }
 
-  pub attr_tree : {n : Read AttrName} {a : Read (Option Arguments)} → slice_get tokens from ≡ Some (Mark sign.At p) → ReadsOf attr_name_seen AttrNamePhrase 0 tokens names (from + 1) node n → MaybeOf arguments_seen (Mark sign.Open) AttrArguments 0 tokens names n.end n.node a → ReadsOf attr_seen Attribute 1 tokens names from node (record { tree = record { node = a.node; place = p; name = n.tree; arguments = a.tree }; end = a.end; node = a.node + 1 })
+  pub attr_tree : {n : Read AttrName} {a : Read (Option Arguments)} → slice_get tokens from ≡ Some (Mark sign.At p) → ReadsOf attr_name_seen AttrNamePhrase 0 tokens names (from + 1) node n →
+      MaybeOf arguments_seen (Mark sign.Open) AttrArguments 0 tokens names n.end n.node a →
+      ReadsOf attr_seen Attribute 1 tokens names from node (record { tree = record { node = a.node; place = p; name = n.tree; arguments = a.tree }; end = a.end; node = a.node + 1 })
   attr_tree {n = n} {a = a} is x y = record {
     reads = attr_reads h p is x.reads (option_map (arguments_shape names) a.tree) a.end y.reads;
     known = (let b = x.known in let c = y.known in omega arith);
@@ -55,5 +59,7 @@ module _ {tokens : List Lexeme} {size : ℕ} {first mid : List (List ℕ)} {from
   pub attrs_tree : ((p : Place) → slice_get tokens at ≡ Some (Mark sign.At p) → ⊥) → ReadsOf attrs_seen (Many Attribute) 8 tokens mid from start (record { tree = items; end = at; node = node })
   attrs_tree never = record { reads = attributes_end t.stage never; known = t.known; nodes = t.nodes }
 
-  pub attr_turn : {new : List (List ℕ)} {r : Read Attr} {p : Place} (more : List Attr) → Grows mid new → slice_get tokens at ≡ Some (Mark sign.At p) → ReadsOf attr_seen Attribute 1 tokens new at node r → more ≡ items ++ r.tree ∷ [] → at < r.end → r.end ≤ size → r.node + at ≤ node + r.end → length new + at ≤ length mid + r.end → AttrTurn tokens size first new from start more r.end r.node
+  pub attr_turn : {new : List (List ℕ)} {r : Read Attr} {p : Place} (more : List Attr) → Grows mid new → slice_get tokens at ≡ Some (Mark sign.At p) →
+      ReadsOf attr_seen Attribute 1 tokens new at node r → more ≡ items ++ r.tree ∷ [] → at < r.end → r.end ≤ size → r.node + at ≤ node + r.end → length new + at ≤ length mid + r.end →
+      AttrTurn tokens size first new from start more r.end r.node
   attr_turn {r = r} {p = p} more g is x same further high numbered few = turn_more attr_keeps t g x same r.end (omega arith) high further numbered few (attributes_more t.stage p is further _ (turn_shapes attr_keeps t g x same) x.reads)

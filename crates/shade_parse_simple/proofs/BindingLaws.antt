@@ -40,7 +40,18 @@ module _ (keyword : Place) where
   BoundType n = After (Maybe OfType) (BoundValue n)
 
   bound_there : (r : BindingShape) (ts w : List Lexeme) → Bound keyword r ts w → After Name BoundType r ts w
-  bound_there r ts w (bound b {ts = us} {us = vs} same t v) = record { part = b.name; others = us; phrase = name b.name; rest = record { part = b.ty; others = vs; phrase = t; rest = record { part = b.value; others = w; phrase = v; rest = record { same = λ i. record { place = same i; name = b.name; ty = b.ty; value = b.value }; left = refl } } } }
+  bound_there r ts w (bound b {ts = us} {us = vs} same t v) = record {
+    part = b.name;
+    others = us;
+    phrase = name b.name;
+    rest = record {
+      part = b.ty;
+      others = vs;
+      phrase = t;
+      rest = record
+          { part = b.value; others = w; phrase = v; rest = record { same = λ i. record { place = same i; name = b.name; ty = b.ty; value = b.value }; left = refl } };
+    };
+  }
 
   bound_back : (r : BindingShape) (ts w : List Lexeme) → After Name BoundType r ts w → Bound keyword r ts w
   bound_back r ts w a =
@@ -97,7 +108,23 @@ pub var_space_opens : Opens (Mark sign.OpenTemplate) VarSpace SpaceRest (λ s. s
 var_space_opens = record { there = there; back = back }
   where
     there : (r : VarSpaceShape) (ts w : List Lexeme) → VarSpace r ts w → After (Placed (Mark sign.OpenTemplate)) (λ p. After SpaceRest (λ b. Ends b)) r ts w
-    there r ts w (var_space s p q {ts = us} {us = vs} a m) = record { part = p; others = Word r.space.text r.space.place ∷ us; phrase = record { is = refl }; rest = record { part = r; others = w; phrase = record { part = r.space; others = us; phrase = name r.space; rest = record { part = (r.access, r.trailing); others = w; phrase = space_end a (ending q m); rest = record { same = refl; left = refl } } }; rest = record { same = refl; left = refl } } }
+    there r ts w (var_space s p q {ts = us} {us = vs} a m) = record {
+      part = p;
+      others = Word r.space.text r.space.place ∷ us;
+      phrase = record { is = refl };
+      rest = record {
+        part = r;
+        others = w;
+        phrase = record {
+          part = r.space;
+          others = us;
+          phrase = name r.space;
+          rest = record
+              { part = (r.access, r.trailing); others = w; phrase = space_end a (ending q m); rest = record { same = refl; left = refl } };
+        };
+        rest = record { same = refl; left = refl };
+      };
+    }
 
     space_by : (n : NameShape) (e : Option NameShape × Bool) (p : Place) (us w : List Lexeme) → SpaceEnd e us w → VarSpace (space n e) (Mark sign.OpenTemplate p ∷ (Word n.text n.place ∷ us)) w
     space_by n e p us w (space_end {access = a} {trailing = t} m (ending q k)) = var_space (space n (a, t)) p q m k

@@ -38,21 +38,29 @@ module _ {tokens : List Lexeme} {names : List (List ℕ)} {from node : ℕ} wher
   }
 
   module _ (h : from ≤ length tokens) where
-    pub bound_tree : {keyword : Place} {n : Read Named} {t : Read (Option Expr)} {e : Read Expr} → ReadsOf named_seen Name 0 tokens names from node n → MaybeOf expr_seen (Mark sign.Colon) OfType 0 tokens names n.end n.node t → ReadsOf expr_seen HasValue 7 tokens names t.end t.node e → ReadsOf binding_seen (Bound keyword) 7 tokens names from node (record { tree = record { keyword = keyword; name = n.tree; ty = t.tree; value = e.tree }; end = e.end; node = e.node })
+    pub bound_tree : {keyword : Place} {n : Read Named} {t : Read (Option Expr)} {e : Read Expr} → ReadsOf named_seen Name 0 tokens names from node n →
+        MaybeOf expr_seen (Mark sign.Colon) OfType 0 tokens names n.end n.node t → ReadsOf expr_seen HasValue 7 tokens names t.end t.node e →
+        ReadsOf binding_seen (Bound keyword) 7 tokens names from node (record { tree = record { keyword = keyword; name = n.tree; ty = t.tree; value = e.tree }; end = e.end; node = e.node })
     bound_tree {keyword = keyword} {n = n} {t = t} {e = e} x y z = record {
       reads = bound_reads keyword h x.reads (option_map (expr_shape names) t.tree) t.end y.reads z.reads;
       known = (let a = x.known in let b = y.known in let c = z.known in omega arith);
       nodes = count_join (named_nodes n.tree) (nodes_maybe expr_nodes t.tree ++ expr_nodes e.tree) node n.node e.node x.nodes (count_join (nodes_maybe expr_nodes t.tree) (expr_nodes e.tree) n.node t.node e.node y.nodes z.nodes);
     }
 
-    pub space_tree : {p : Place} {n : Read Named} {a : Read (Option Named × Bool)} → slice_get tokens from ≡ Some (Mark sign.OpenTemplate p) → from + 1 ≤ length tokens → from < a.end → ReadsOf named_seen Name 0 tokens names (from + 1) node n → ReadsOf access_seen SpaceEnd 0 tokens names n.end n.node a → MaybeOf var_space_seen (Mark sign.OpenTemplate) VarSpace 0 tokens names from node (record { tree = Some (record { space = n.tree; access = a.tree.0; trailing = a.tree.1 }); end = a.end; node = a.node })
+    pub space_tree : {p : Place} {n : Read Named} {a : Read (Option Named × Bool)} → slice_get tokens from ≡ Some (Mark sign.OpenTemplate p) → from + 1 ≤ length tokens → from < a.end →
+        ReadsOf named_seen Name 0 tokens names (from + 1) node n → ReadsOf access_seen SpaceEnd 0 tokens names n.end n.node a →
+        MaybeOf var_space_seen (Mark sign.OpenTemplate) VarSpace 0 tokens names from node
+        (record { tree = Some (record { space = n.tree; access = a.tree.0; trailing = a.tree.1 }); end = a.end; node = a.node })
     space_tree {p = p} {n = n} {a = a} is high lt x y = record {
       reads = ((p, is), lt, opened_reads var_space_opens (omega arith) h (λ p. refl) p is (space_rest_reads high x.reads y.reads));
       known = (let e = x.known in let f = y.known in omega arith);
       nodes = count_join (named_nodes n.tree) (nodes_maybe named_nodes a.tree.0) node n.node a.node x.nodes y.nodes;
     }
 
-    pub var_tree : {p : Place} {s : Read (Option VarSpaceTree)} {n : Read Named} {t e : Read (Option Expr)} → slice_get tokens from ≡ Some (Key word.Var p) → MaybeOf var_space_seen (Mark sign.OpenTemplate) VarSpace 0 tokens names (from + 1) node s → ReadsOf named_seen Name 0 tokens names s.end s.node n → MaybeOf expr_seen (Mark sign.Colon) OfType 0 tokens names n.end n.node t → MaybeOf expr_seen (Mark sign.Equal) HasValue 7 tokens names t.end t.node e → ReadsOf var_seen Var 8 tokens names from node (record { tree = record { keyword = p; space = s.tree; name = n.tree; ty = t.tree; value = e.tree }; end = e.end; node = e.node })
+    pub var_tree : {p : Place} {s : Read (Option VarSpaceTree)} {n : Read Named} {t e : Read (Option Expr)} → slice_get tokens from ≡ Some (Key word.Var p) →
+        MaybeOf var_space_seen (Mark sign.OpenTemplate) VarSpace 0 tokens names (from + 1) node s → ReadsOf named_seen Name 0 tokens names s.end s.node n →
+        MaybeOf expr_seen (Mark sign.Colon) OfType 0 tokens names n.end n.node t → MaybeOf expr_seen (Mark sign.Equal) HasValue 7 tokens names t.end t.node e →
+        ReadsOf var_seen Var 8 tokens names from node (record { tree = record { keyword = p; space = s.tree; name = n.tree; ty = t.tree; value = e.tree }; end = e.end; node = e.node })
     var_tree {p = p} {s = s} {n = n} {t = t} {e = e} is a x y z = record {
       reads = var_reads h p is (option_map (var_space_shape names) s.tree) s.end a.reads x.reads (option_map (expr_shape names) t.tree) t.end y.reads (option_map (expr_shape names) e.tree) e.end z.reads;
       known = (let b = a.known in let c = x.known in let d = y.known in let f = z.known in omega arith);
@@ -61,5 +69,8 @@ module _ {tokens : List Lexeme} {names : List (List ℕ)} {from node : ℕ} wher
           (count_join (named_nodes n.tree) (nodes_maybe expr_nodes t.tree ++ nodes_maybe expr_nodes e.tree) s.node n.node e.node x.nodes (count_join (nodes_maybe expr_nodes t.tree) (nodes_maybe expr_nodes e.tree) n.node t.node e.node y.nodes z.nodes));
     }
 
-  pub access_tree : {q : Place} {n : Read Named} {trailing : Bool} {end : ℕ} → from ≤ length tokens → ((p : Place) → slice_get tokens from ≡ Some (Mark sign.CloseTemplate p) → ⊥) → slice_get tokens from ≡ Some (Mark sign.Comma q) → ((p : Place) → slice_get tokens (from + 1) ≡ Some (Mark sign.CloseTemplate p) → ⊥) → ReadsOf named_seen Name 0 tokens names (from + 1) node n → Reads (Ending sign.CloseTemplate) 0 tokens n.end trailing end → ReadsOf access_seen SpaceEnd 0 tokens names from node (record { tree = (Some n.tree, trailing); end = end; node = n.node })
+  pub access_tree : {q : Place} {n : Read Named} {trailing : Bool} {end : ℕ} → from ≤ length tokens → ((p : Place) → slice_get tokens from ≡ Some (Mark sign.CloseTemplate p) → ⊥) →
+      slice_get tokens from ≡ Some (Mark sign.Comma q) → ((p : Place) → slice_get tokens (from + 1) ≡ Some (Mark sign.CloseTemplate p) → ⊥) →
+      ReadsOf named_seen Name 0 tokens names (from + 1) node n → Reads (Ending sign.CloseTemplate) 0 tokens n.end trailing end →
+      ReadsOf access_seen SpaceEnd 0 tokens names from node (record { tree = (Some n.tree, trailing); end = end; node = n.node })
   access_tree {q = q} h no_close comma no_second x y = record { reads = space_reads h no_close q comma no_second x.reads y; known = x.known; nodes = x.nodes }

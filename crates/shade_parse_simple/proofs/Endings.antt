@@ -91,7 +91,14 @@ access_there None t ts us w absent e =
       | inl a ↦ inl (record { part = a.part; others = a.others; phrase = a.phrase; rest = record { same = ap no_access a.rest.same; left = a.rest.left } })
       | inr a ↦ inr (record { part = a.part; others = a.others; phrase = a.phrase; rest = inl (record { part = a.rest.part; others = a.rest.others; phrase = a.rest.phrase; rest = record { same = ap no_access a.rest.rest.same; left = a.rest.rest.left } }) })
     ]
-access_there (Some n) t ts us w (present (comma_name p m)) e = inr (record { part = p; others = Word n.text n.place ∷ us; phrase = record { is = refl }; rest = inr (record { part = n; others = us; phrase = name n; rest = record { part = t; others = w; phrase = e; rest = record { same = refl; left = refl } } }) })
+access_there (Some n) t ts us w (present (comma_name p m)) e = inr
+    (record {
+      part = p;
+      others = Word n.text n.place ∷ us;
+      phrase = record { is = refl };
+      rest = inr
+          (record { part = n; others = us; phrase = name n; rest = record { part = t; others = w; phrase = e; rest = record { same = refl; left = refl } } });
+    })
 
 space_there : (r : Option NameShape × Bool) (ts w : List Lexeme) → SpaceEnd r ts w → SpaceNow r ts w ⊎ SpaceThen r ts w
 space_there r ts w (space_end {access = a} {trailing = t} {us = us} m e) = access_there a t ts us w m e
@@ -102,7 +109,15 @@ now_space r ts w a = subst (λ x. SpaceEnd x ts w) (sym a.rest.same) (space_end 
 then_space : (r : Option NameShape × Bool) (ts w : List Lexeme) → SpaceThen r ts w → SpaceEnd r ts w
 then_space r ts w a =
     elim a.rest [
-      | inl b ↦ subst (λ x. SpaceEnd x ts w) (sym b.rest.same) (space_end absent (then_back sign.CloseTemplate true ts w (record { part = a.part; others = a.others; phrase = a.phrase; rest = record { part = b.part; others = b.others; phrase = b.phrase; rest = record { same = refl; left = b.rest.left } } })))
+      | inl b ↦ subst (λ x. SpaceEnd x ts w) (sym b.rest.same)
+          (space_end absent
+          (then_back sign.CloseTemplate true ts w
+          (record {
+            part = a.part;
+            others = a.others;
+            phrase = a.phrase;
+            rest = record { part = b.part; others = b.others; phrase = b.phrase; rest = record { same = refl; left = b.rest.left } };
+          })))
       | inr b ↦
           (let e = b.rest in
           subst (λ x. SpaceEnd x ts w) (sym e.rest.same)
@@ -160,7 +175,12 @@ module _ {tokens : List Lexeme} {from : ℕ} (h : from ≤ length tokens) where
 
       pub space_comma_close : (p : Place) → slice_get tokens (from + 1) ≡ Some (Mark sign.CloseTemplate p) → Reads SpaceEnd 0 tokens from (None, true) (from + 1 + 1)
       space_comma_close p is =
-          ended (token (λ p. refl) p is (left (λ r ys w stop b near. let e : slice_get tokens (from + 1) ≡ Some (Word b.part.text b.part.place) = near_get tokens (from + 1) (Word b.part.text b.part.place) b.others (subst (λ x. Near x (drop (from + 1) tokens)) (name_begins b.part ys b.others b.phrase) near) in let f : Some (Mark sign.CloseTemplate p) ≡ Some (Word b.part.text b.part.place) = sym is ∙ e in cc) space_comma))
+          ended
+          (token (λ p. refl) p is
+          (left
+          (λ r ys w stop b near. let e : slice_get tokens (from + 1) ≡ Some (Word b.part.text b.part.place) = near_get tokens (from + 1) (Word b.part.text b.part.place) b.others
+          (subst (λ x. Near x (drop (from + 1) tokens)) (name_begins b.part ys b.others b.phrase) near) in let f : Some (Mark sign.CloseTemplate p) ≡ Some
+          (Word b.part.text b.part.place) = sym is ∙ e in cc) space_comma))
 
       module _ (more : (p : Place) → slice_get tokens (from + 1) ≡ Some (Mark sign.CloseTemplate p) → ⊥) where
         space_name : Stage SpaceEnd 0 tokens from (from + 1) NameThen

@@ -31,12 +31,15 @@ module _ {R S : Type 0} (G : R → List Lexeme → List Lexeme → Type 0) (B : 
   fault_of kind fault.NoMemory k x = omega arith
 
 -- an optional part that is there fails
-pub fault_at : {R : Type 0} (G : R → List Lexeme → List Lexeme → Type 0) (n : ℕ) (tokens : List Lexeme) (first new : List (List ℕ)) (from : ℕ) (kind : Place → Lexeme) → Stands kind tokens from → (f : Fault) → ((to : ℕ) → Fails G n tokens from to → from < to) → Faults G n tokens first new from f → MaybeFaults kind G n tokens first new from f
+pub fault_at : {R : Type 0} (G : R → List Lexeme → List Lexeme → Type 0) (n : ℕ) (tokens : List Lexeme) (first new : List (List ℕ)) (from : ℕ) (kind : Place → Lexeme) →
+    Stands kind tokens from → (f : Fault) → ((to : ℕ) → Fails G n tokens from to → from < to) → Faults G n tokens first new from f → MaybeFaults kind G n tokens first new from f
 fault_at G n tokens first new from kind t (fault.Unexpected to) later x = (t, later to x.fails, x)
 fault_at G n tokens first new from kind t fault.NoMemory later x = x
 
 -- a phrase without names fails
-pub fault_plain : {R S : Type 0} (G : R → List Lexeme → List Lexeme → Type 0) (B : S → List Lexeme → List Lexeme → Type 0) (n m : ℕ) (tokens : List Lexeme) (first new : List (List ℕ)) (from at : ℕ) (f : Fault) → length new + from ≤ length first + at → at ≤ length tokens → ((to : ℕ) → Fails B m tokens at to → Fails G n tokens from to) → Faults B m tokens [] [] at f → Faults G n tokens first new from f
+pub fault_plain : {R S : Type 0} (G : R → List Lexeme → List Lexeme → Type 0) (B : S → List Lexeme → List Lexeme → Type 0) (n m : ℕ) (tokens : List Lexeme) (first new : List (List ℕ))
+    (from at : ℕ) (f : Fault) → length new + from ≤ length first + at → at ≤ length tokens → ((to : ℕ) → Fails B m tokens at to → Fails G n tokens from to) → Faults B m tokens [] [] at f →
+    Faults G n tokens first new from f
 fault_plain G B n m tokens first new from at (fault.Unexpected to) few le k x = record { fails = k to x.fails; few = (let e : at ≤ to = x.fails.low in omega arith) }
 fault_plain G B n m tokens first new from at fault.NoMemory few le k x = omega arith
 

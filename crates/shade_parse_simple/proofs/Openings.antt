@@ -91,7 +91,18 @@ pub arguments_opens : Opens (Mark sign.Open) AttrArguments Arguments listed
 arguments_opens = record { there = there; back = λ p b us w g. attr_arguments p g.place (maybe_exprs_here b us (Mark sign.Close g.place ∷ w) g.list) }
   where
     there : (r : ExprShapes × Bool) (ts w : List Lexeme) → AttrArguments r ts w → After (Placed (Mark sign.Open)) (λ p. After Arguments (λ b. Ends (listed b))) r ts w
-    there r ts w (attr_arguments p q {ts = us} g) = record { part = p; others = us; phrase = record { is = refl }; rest = record { part = (expr_list r.0, r.1); others = w; phrase = record { place = q; list = maybe_exprs_there r us (Mark sign.Close q ∷ w) g }; rest = record { same = ap (λ x. (x, r.1)) (sym (expr_list_back r.0)); left = refl } } }
+    there r ts w (attr_arguments p q {ts = us} g) = record {
+      part = p;
+      others = us;
+      phrase = record { is = refl };
+      rest = record {
+        part = (expr_list r.0, r.1);
+        others = w;
+        phrase = record { place = q; list = maybe_exprs_there r us (Mark sign.Close q ∷ w) g };
+        rest = record
+            { same = ap (λ x. (x, r.1)) (sym (expr_list_back r.0)); left = refl };
+      };
+    }
 
 pub arguments_close : Closes Arguments
 arguments_close = record { tree = ([], false); more = Mark sign.Close some_place ∷ []; closed = λ w. record { place = some_place; list = nothing } }

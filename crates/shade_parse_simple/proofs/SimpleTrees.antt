@@ -18,7 +18,9 @@ module _ {tokens : List Lexeme} {names : List (List ℕ)} {from node : ℕ} wher
   pub variable_tree : {v : Read VarTree} → Stands (Key word.Var) tokens from → ReadsOf var_seen Var 8 tokens names from node v → ReadsOf simple_seen SimpleStatement 8 tokens names from node (record { tree = simple.Var v.tree; end = v.end; node = v.node })
   variable_tree s x = record { reads = by_var_reads s x.reads; known = x.known; nodes = x.nodes }
 
-  pub update_tree : {u : Read Update} → (Stands (Key word.Var) tokens from → ⊥) → (Stands (Key word.Const) tokens from → ⊥) → (Stands (Key word.Let) tokens from → ⊥) → ReadsOf update_seen UpdateOf 7 tokens names from node u → ReadsOf simple_seen SimpleStatement 8 tokens names from node (record { tree = simple.Update u.tree; end = u.end; node = u.node })
+  pub update_tree : {u : Read Update} → (Stands (Key word.Var) tokens from → ⊥) → (Stands (Key word.Const) tokens from → ⊥) → (Stands (Key word.Let) tokens from → ⊥) →
+      ReadsOf update_seen UpdateOf 7 tokens names from node u →
+      ReadsOf simple_seen SimpleStatement 8 tokens names from node (record { tree = simple.Update u.tree; end = u.end; node = u.node })
   update_tree no_var no_const no_let x = record { reads = by_update_reads no_var no_const no_let x.reads; known = x.known; nodes = x.nodes }
 
   module _ (h : from ≤ length tokens) {p : Place} {b : Read Binding} where

@@ -58,10 +58,13 @@ module _ {R : Type 0} where
       by (Some x) ys us (present g) c e = let f = first x ys us g in other f.0 (let k : t ∷ zs ≡ kind f.0 ∷ f.1 = sym e ∙ f.2 in cc)
 
 -- no token of this kind stands there
-pub not_here : {R : Type 0} (n : ℕ) (tokens : List Lexeme) (at : ℕ) (kind : Place → Lexeme) (C : Place → R → List Lexeme → List Lexeme → Type 0) → ((p : Place) → slice_get tokens at ≡ Some (kind p) → ⊥) → (r : R) (ys w : List Lexeme) → n < rank w → After (Placed kind) C r ys w → Near ys (drop at tokens) → ⊥
+pub not_here : {R : Type 0} (n : ℕ) (tokens : List Lexeme) (at : ℕ) (kind : Place → Lexeme) (C : Place → R → List Lexeme → List Lexeme → Type 0) →
+    ((p : Place) → slice_get tokens at ≡ Some (kind p) → ⊥) → (r : R) (ys w : List Lexeme) → n < rank w → After (Placed kind) C r ys w → Near ys (drop at tokens) → ⊥
 not_here n tokens at kind C never r ys w stop a near = never a.part (near_get tokens at (kind a.part) a.others (subst (λ x. Near x (drop at tokens)) a.phrase.is near))
 
-pub begins_not_here : {R S : Type 0} (n : ℕ) (tokens : List Lexeme) (at : ℕ) (kind : Place → Lexeme) (X : S → List Lexeme → List Lexeme → Type 0) → BeginsWith kind X → (C : S → R → List Lexeme → List Lexeme → Type 0) → ((p : Place) → slice_get tokens at ≡ Some (kind p) → ⊥) → (r : R) (ys w : List Lexeme) → n < rank w → After X C r ys w → Near ys (drop at tokens) → ⊥
+pub begins_not_here : {R S : Type 0} (n : ℕ) (tokens : List Lexeme) (at : ℕ) (kind : Place → Lexeme) (X : S → List Lexeme → List Lexeme → Type 0) → BeginsWith kind X →
+    (C : S → R → List Lexeme → List Lexeme → Type 0) → ((p : Place) → slice_get tokens at ≡ Some (kind p) → ⊥) → (r : R) (ys w : List Lexeme) → n < rank w → After X C r ys w →
+    Near ys (drop at tokens) → ⊥
 begins_not_here n tokens at kind X first C never r ys w stop a near = let f = first a.part ys a.others a.phrase in never f.0 (near_get tokens at (kind f.0) f.1 (subst (λ x. Near x (drop at tokens)) f.2 near))
 
 pub either_avoids : {R : Type 0} (C D : R → List Lexeme → List Lexeme → Type 0) (n : ℕ) (t : Lexeme) → Avoids n t C → Avoids n t D → Avoids n t (λ r ys w. C r ys w ⊎ D r ys w)
@@ -94,7 +97,9 @@ fails_later {X = X} {n = n} {tokens = tokens} {at = at} {to = to} {t = t} r ys s
     ]
 
 -- the tokens that were read begin with one that rules out what is left
-pub ruled_out : {R : Type 0} (n : ℕ) (tokens : List Lexeme) (at to : ℕ) (kind : Place → Lexeme) (D : R → List Lexeme → List Lexeme → Type 0) → ((p : Place) → Avoids n (kind p) D) → (t : Stands kind tokens at) → at < to → to ≤ length tokens → (us : List Lexeme) → drop at tokens ≡ us ++ drop to tokens → (r : R) (ys w : List Lexeme) → n < rank w → D r (us ++ ys) w → Near ys (drop to tokens) → ⊥
+pub ruled_out : {R : Type 0} (n : ℕ) (tokens : List Lexeme) (at to : ℕ) (kind : Place → Lexeme) (D : R → List Lexeme → List Lexeme → Type 0) → ((p : Place) → Avoids n (kind p) D) →
+    (t : Stands kind tokens at) → at < to → to ≤ length tokens → (us : List Lexeme) → drop at tokens ≡ us ++ drop to tokens → (r : R) (ys w : List Lexeme) → n < rank w → D r (us ++ ys) w →
+    Near ys (drop to tokens) → ⊥
 ruled_out n tokens at to kind D avoids t lt high us spelled r ys w stop c near =
     let f : (vs : List Lexeme) × (us ≡ kind t.0 ∷ vs) = first_read tokens us at to (kind t.0) lt high spelled t.1 in
     avoids t.0 r (f.0 ++ ys) w stop (subst (λ x. D r (x ++ ys) w) f.1 c)
@@ -121,7 +126,9 @@ module _ {R : Type 0} {G : R → List Lexeme → List Lexeme → Type 0} {n : �
       (consume G n tokens from at (After (Placed kind) C) (kind p) is s)
 
   -- the same where another way was open, which does not begin with the token
-  pub token_or : {kind : Place → Lexeme} {C : Place → R → List Lexeme → List Lexeme → Type 0} {D : R → List Lexeme → List Lexeme → Type 0} {at : ℕ} → ((p : Place) → lexeme_place (kind p) ≡ p) → (p : Place) → slice_get tokens at ≡ Some (kind p) → Avoids n (kind p) D → Stage G n tokens from at (λ r ys w. After (Placed kind) C r ys w ⊎ D r ys w) → Stage G n tokens from (at + 1) (C p)
+  pub token_or : {kind : Place → Lexeme} {C : Place → R → List Lexeme → List Lexeme → Type 0} {D : R → List Lexeme → List Lexeme → Type 0} {at : ℕ} →
+      ((p : Place) → lexeme_place (kind p) ≡ p) → (p : Place) → slice_get tokens at ≡ Some (kind p) → Avoids n (kind p) D →
+      Stage G n tokens from at (λ r ys w. After (Placed kind) C r ys w ⊎ D r ys w) → Stage G n tokens from (at + 1) (C p)
   token_or {kind = kind} {C = C} {D = D} {at = at} back p is avoids s =
       change G n tokens from (at + 1) (λ r zs w. After (Placed kind) C r (kind p ∷ zs) w ⊎ D r (kind p ∷ zs) w) (C p)
       (λ r zs w stop near e.

@@ -87,9 +87,32 @@ abbrev Ways : UpdateShape → List Lexeme → List Lexeme → Type 0
 Ways r ys w = Drops r ys w ⊎ AloneChanges r ys w
 
 update_there : (r : UpdateShape) (ts w : List Lexeme) → UpdateOf r ts w → Ways r ts w
-update_there r ts w (assigned {e = e} {f = f} p {us = us} g h) = inr (inr (record { part = e; others = Mark sign.Equal p ∷ us; phrase = g; rest = inr (inr (record { part = (None, p); others = us; phrase = plainly p; rest = record { part = f; others = w; phrase = h; rest = record { same = refl; left = refl } } })) }))
-update_there r ts w (compounded {e = e} {f = f} {o = o} p {us = us} {vs = vs} g a h) = inr (inr (record { part = e; others = us; phrase = g; rest = inr (inr (record { part = (Some o, p); others = vs; phrase = by_operator a; rest = record { part = f; others = w; phrase = h; rest = record { same = refl; left = refl } } })) }))
-update_there r ts w (dropped {f = f} p q {ts = us} h) = inl (record { part = p; others = Mark sign.Equal q ∷ us; phrase = record { is = refl }; rest = record { part = q; others = us; phrase = record { is = refl }; rest = record { part = f; others = w; phrase = h; rest = record { same = refl; left = refl } } } })
+update_there r ts w (assigned {e = e} {f = f} p {us = us} g h) = inr
+    (inr
+    (record {
+      part = e;
+      others = Mark sign.Equal p ∷ us;
+      phrase = g;
+      rest = inr
+          (inr (record { part = (None, p); others = us; phrase = plainly p; rest = record { part = f; others = w; phrase = h; rest = record { same = refl; left = refl } } }));
+    }))
+update_there r ts w (compounded {e = e} {f = f} {o = o} p {us = us} {vs = vs} g a h) = inr
+    (inr
+    (record {
+      part = e;
+      others = us;
+      phrase = g;
+      rest = inr
+          (inr (record { part = (Some o, p); others = vs; phrase = by_operator a; rest = record { part = f; others = w; phrase = h; rest = record { same = refl; left = refl } } }));
+    }))
+update_there r ts w (dropped {f = f} p q {ts = us} h) = inl
+    (record {
+      part = p;
+      others = Mark sign.Equal q ∷ us;
+      phrase = record { is = refl };
+      rest = record
+          { part = q; others = us; phrase = record { is = refl }; rest = record { part = f; others = w; phrase = h; rest = record { same = refl; left = refl } } };
+    })
 update_there r ts w (incremented {e = e} p g) = inr (inr (record { part = e; others = Mark sign.PlusPlus p ∷ w; phrase = g; rest = inl (record { part = p; others = w; phrase = record { is = refl }; rest = record { same = refl; left = refl } }) }))
 update_there r ts w (decremented {e = e} p g) = inr (inr (record { part = e; others = Mark sign.MinusMinus p ∷ w; phrase = g; rest = inr (inl (record { part = p; others = w; phrase = record { is = refl }; rest = record { same = refl; left = refl } })) }))
 update_there r ts w (called_alone {e = e} g) = inr (inl (record { part = e; others = w; phrase = g; rest = record { same = refl; left = refl } }))

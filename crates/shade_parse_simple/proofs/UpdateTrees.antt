@@ -19,7 +19,9 @@ use Rattle.shade_parse_simple.specs.Updates.{Assigning, assigned_by, BeginsCall,
 use Rattle.shade_parse_simple.proofs.UpdateLaws.{drops_reads, alone_reads, up_reads, down_reads, sets_reads}
 
 module _ {tokens : List Lexeme} {names : List (List ℕ)} {from node : ℕ} (h : from ≤ length tokens) where
-  pub phony_tree : {p q : Place} {v : Read Expr} → slice_get tokens from ≡ Some (Mark sign.Underscore p) → slice_get tokens (from + 1) ≡ Some (Mark sign.Equal q) → ReadsOf expr_seen Expression 7 tokens names (from + 2) node v → ReadsOf update_seen UpdateOf 7 tokens names from node (record { tree = update.Phony p q v.tree; end = v.end; node = v.node })
+  pub phony_tree : {p q : Place} {v : Read Expr} → slice_get tokens from ≡ Some (Mark sign.Underscore p) → slice_get tokens (from + 1) ≡ Some (Mark sign.Equal q) →
+      ReadsOf expr_seen Expression 7 tokens names (from + 2) node v →
+      ReadsOf update_seen UpdateOf 7 tokens names from node (record { tree = update.Phony p q v.tree; end = v.end; node = v.node })
   phony_tree {p = p} {q = q} is equal x = record { reads = drops_reads h p is q equal x.reads; known = x.known; nodes = x.nodes }
 
   pub call_tree : {e : Read Expr} → BeginsCall tokens from → from < e.end → ReadsOf expr_seen Call 1 tokens names from node e → ReadsOf update_seen UpdateOf 7 tokens names from node (record { tree = update.Call e.tree; end = e.end; node = e.node })
@@ -46,5 +48,6 @@ module _ {tokens : List Lexeme} {names : List (List ℕ)} {from node : ℕ} (h :
           nodes = count_join (expr_nodes t.tree) (expr_nodes v.tree) node t.node v.node x.nodes y.nodes;
         }
 
-        pub set_tree : {a : Option OpAssign} {u : Update} → Reads Assigning 0 tokens t.end (a, p) behind → ReadsOf expr_seen Expression 7 tokens names behind t.node v → u ≡ assigned_by t.tree a p v.tree → ReadsOf update_seen UpdateOf 7 tokens names from node (record { tree = u; end = v.end; node = v.node })
+        pub set_tree : {a : Option OpAssign} {u : Update} → Reads Assigning 0 tokens t.end (a, p) behind → ReadsOf expr_seen Expression 7 tokens names behind t.node v →
+            u ≡ assigned_by t.tree a p v.tree → ReadsOf update_seen UpdateOf 7 tokens names from node (record { tree = u; end = v.end; node = v.node })
         set_tree {a = a} s y same = subst (λ z. ReadsOf update_seen UpdateOf 7 tokens names from node (record { tree = z; end = v.end; node = v.node })) (sym same) (set_by a s y)

@@ -54,7 +54,9 @@ pub part_reads : {G : ExprShape → List Lexeme → List Lexeme → Type 0} {n :
 part_reads {node = node} {p = p} x = record { reads = x.reads; known = x.known; nodes = counted_all (expr_nodes p.expr) node p.node x.nodes }
 
 -- the same tree, read as another phrase
-pub reads_on : {T R : Type 0} {seen : Seen T R} {G : R → List Lexeme → List Lexeme → Type 0} {n : ℕ} {tokens : List Lexeme} {names : List (List ℕ)} {from node : ℕ} {r : Read T} (B : R → List Lexeme → List Lexeme → Type 0) (m at : ℕ) → (Reads B m tokens at (seen.shape names r.tree) r.end → Reads G n tokens from (seen.shape names r.tree) r.end) → ReadsOf seen B m tokens names at node r → ReadsOf seen G n tokens names from node r
+pub reads_on : {T R : Type 0} {seen : Seen T R} {G : R → List Lexeme → List Lexeme → Type 0} {n : ℕ} {tokens : List Lexeme} {names : List (List ℕ)} {from node : ℕ} {r : Read T}
+    (B : R → List Lexeme → List Lexeme → Type 0) (m at : ℕ) → (Reads B m tokens at (seen.shape names r.tree) r.end → Reads G n tokens from (seen.shape names r.tree) r.end) →
+    ReadsOf seen B m tokens names at node r → ReadsOf seen G n tokens names from node r
 reads_on B m at f x = record { reads = f x.reads; known = x.known; nodes = x.nodes }
 
 -- an optional part that is there, and one that is not

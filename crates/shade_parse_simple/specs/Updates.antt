@@ -1,6 +1,7 @@
 -- What assigns, and what begins a call (WGSL, "Assignment Statement", "Function Call Statement").
 use Rattle.std.specs.Prelude.{ℕ, ◌+◌, ◌⊎◌, List, ◌∷◌, Option, None, Some}
 use Rattle.shade_base.specs.declared.place.Place.{Place}
+use Rattle.shade_ast.specs.declared.lexeme.Sign.{Sign}
 use Rattle.shade_ast.specs.declared.lexeme.Sign.TheVariants as sign
 use Rattle.shade_ast.specs.declared.expr.Expr.{Expr}
 use Rattle.shade_ast.specs.declared.stmt.OpAssign.{OpAssign}
@@ -9,22 +10,25 @@ use Rattle.shade_ast.specs.declared.stmt.Update.{Update}
 use Rattle.shade_ast.specs.declared.stmt.Update.TheVariants as update
 use Rattle.shade_ast.specs.Lexemes.{Lexeme, Mark}
 use Rattle.shade_ast.specs.Statements.{Assigns}
-use Rattle.shade_cursor.specs.Operators.{StandsWord}
+use Rattle.shade_cursor.specs.Operators.{StandsWord, by_sign}
 use Rattle.shade_parse_simple.specs.Maybes.{Stands}
 
--- what assigns by one token: `=` has no operator
+-- what assigns by one mark: `=` has no operator
+abbrev pub assigns_by : Sign → Option (Option OpAssign)
+assigns_by sign.Equal = Some None
+assigns_by sign.PlusEqual = Some (Some operator.Add)
+assigns_by sign.MinusEqual = Some (Some operator.Subtract)
+assigns_by sign.StarEqual = Some (Some operator.Multiply)
+assigns_by sign.SlashEqual = Some (Some operator.Divide)
+assigns_by sign.PercentEqual = Some (Some operator.Remainder)
+assigns_by sign.AmpersandEqual = Some (Some operator.BitAnd)
+assigns_by sign.BarEqual = Some (Some operator.BitOr)
+assigns_by sign.CaretEqual = Some (Some operator.BitXor)
+assigns_by sign.ShiftLeftEqual = Some (Some operator.ShiftLeft)
+assigns_by _ = None
+
 abbrev pub assigns_of : Lexeme → Option (Option OpAssign × Place)
-assigns_of (Mark sign.Equal p) = Some (None, p)
-assigns_of (Mark sign.PlusEqual p) = Some (Some operator.Add, p)
-assigns_of (Mark sign.MinusEqual p) = Some (Some operator.Subtract, p)
-assigns_of (Mark sign.StarEqual p) = Some (Some operator.Multiply, p)
-assigns_of (Mark sign.SlashEqual p) = Some (Some operator.Divide, p)
-assigns_of (Mark sign.PercentEqual p) = Some (Some operator.Remainder, p)
-assigns_of (Mark sign.AmpersandEqual p) = Some (Some operator.BitAnd, p)
-assigns_of (Mark sign.BarEqual p) = Some (Some operator.BitOr, p)
-assigns_of (Mark sign.CaretEqual p) = Some (Some operator.BitXor, p)
-assigns_of (Mark sign.ShiftLeftEqual p) = Some (Some operator.ShiftLeft, p)
-assigns_of _ = None
+assigns_of = by_sign assigns_by
 
 -- '=' | opassign, with the place of its first token
 pub data Assigning : Option OpAssign × Place → List Lexeme → List Lexeme → Type 0 where

@@ -22,7 +22,8 @@ use shade_parse_expr::parse::arguments;
 use sqlite_items::Items;
 use std::alloc::Global;
 
-/// Attributes, which may be none.
+/// Reads the attributes that begin at a token, which may be none. `Unexpected` has the first token with which none goes on,
+/// `NoMemory` comes where a part of the tree or a name finds no memory.
 pub fn attributes(
     alloc: Global,
     pieces: &[Piece],
@@ -33,7 +34,8 @@ pub fn attributes(
     requires within { from ≤ length pieces.now }
     requires node { node + length pieces.now < 2 ^ 32 + from }
     requires names { length names.old + length pieces.now < 2 ^ 32 + from }
-    ensures tree { MatchResult result (λ r. ReadsOf attrs_seen (Many Attribute) 8 (lexemes pieces.now) names.new from node r) (λ f. Faults (Many Attribute) 8 (lexemes pieces.now) names.old names.new from f) }
+    ensures tree { MatchResult result (λ r. ReadsOf attrs_seen (Many Attribute) 8 (lexemes pieces.now) names.new from node r)
+        (λ f. Faults (Many Attribute) 8 (lexemes pieces.now) names.old names.new from f) }
     ensures grows { Grows names.old names.new }
     ensures further { IfOk result (λ r. from ≤ r.end) }
     ensures within { IfOk result (λ r. r.end ≤ length pieces.now) }
@@ -67,7 +69,8 @@ fn attribute(
     requires within { from ≤ length pieces.now }
     requires node { node + length pieces.now < 2 ^ 32 + from }
     requires names { length names.old + length pieces.now < 2 ^ 32 + from }
-    ensures tree { MatchResult result (λ r. ReadsOf attr_seen Attribute 1 (lexemes pieces.now) names.new from node r) (λ f. Faults Attribute 1 (lexemes pieces.now) names.old names.new from f) }
+    ensures tree { MatchResult result (λ r. ReadsOf attr_seen Attribute 1 (lexemes pieces.now) names.new from node r)
+        (λ f. Faults Attribute 1 (lexemes pieces.now) names.old names.new from f) }
     ensures grows { Grows names.old names.new }
     ensures further { IfOk result (λ r. from < r.end) }
     ensures within { IfOk result (λ r. r.end ≤ length pieces.now) }
@@ -101,7 +104,8 @@ fn attr_name(
     requires within { from ≤ length pieces.now }
     requires node { node + length pieces.now < 2 ^ 32 + from }
     requires names { length names.old + length pieces.now < 2 ^ 32 + from }
-    ensures tree { MatchResult result (λ r. ReadsOf attr_name_seen AttrNamePhrase 0 (lexemes pieces.now) names.new from node r) (λ f. Faults AttrNamePhrase 0 (lexemes pieces.now) names.old names.new from f) }
+    ensures tree { MatchResult result (λ r. ReadsOf attr_name_seen AttrNamePhrase 0 (lexemes pieces.now) names.new from node r)
+        (λ f. Faults AttrNamePhrase 0 (lexemes pieces.now) names.old names.new from f) }
     ensures grows { Grows names.old names.new }
     ensures further { IfOk result (λ r. from < r.end) }
     ensures within { IfOk result (λ r. r.end ≤ length pieces.now) }
@@ -141,7 +145,8 @@ fn maybe_arguments(
     requires within { from ≤ length pieces.now }
     requires node { node + length pieces.now < 2 ^ 32 + from }
     requires names { length names.old + length pieces.now < 2 ^ 32 + from }
-    ensures tree { MatchResult result (λ r. MaybeOf arguments_seen (Mark sign_.Open) AttrArguments 0 (lexemes pieces.now) names.new from node r) (λ f. MaybeFaults (Mark sign_.Open) AttrArguments 0 (lexemes pieces.now) names.old names.new from f) }
+    ensures tree { MatchResult result (λ r. MaybeOf arguments_seen (Mark sign_.Open) AttrArguments 0 (lexemes pieces.now) names.new from node r)
+        (λ f. MaybeFaults (Mark sign_.Open) AttrArguments 0 (lexemes pieces.now) names.old names.new from f) }
     ensures grows { Grows names.old names.new }
     ensures further { IfOk result (λ r. from ≤ r.end) }
     ensures within { IfOk result (λ r. r.end ≤ length pieces.now) }
@@ -166,7 +171,7 @@ fn maybe_arguments(
     })
 }
 
-/// The place of the first token of what may begin with attributes.
+/// Gives the place of the first token of what may begin with attributes: of the first, or else the one given.
 pub fn first_place(attrs: &Items<Attr>, place: Place) -> Place
     ensures { result ≡ first_of attrs.now place }
 {

@@ -20,7 +20,8 @@ use shade_cursor::piece::{Piece, key_at, mark_at};
 use shade_parse_expr::parse::{expression, type_name};
 use std::alloc::Global;
 
-/// A type behind a `:`, where one stands.
+/// Reads a type behind a `:`, where a `:` stands. `Unexpected` has the first token with which none goes on,
+/// `NoMemory` comes where a part of the tree or a name finds no memory.
 pub fn maybe_type(
     alloc: Global,
     pieces: &[Piece],
@@ -31,7 +32,8 @@ pub fn maybe_type(
     requires within { from ≤ length pieces.now }
     requires node { node + length pieces.now < 2 ^ 32 + from }
     requires names { length names.old + length pieces.now < 2 ^ 32 + from }
-    ensures tree { MatchResult result (λ r. MaybeOf expr_seen (Mark sign_.Colon) OfType 0 (lexemes pieces.now) names.new from node r) (λ f. MaybeFaults (Mark sign_.Colon) OfType 0 (lexemes pieces.now) names.old names.new from f) }
+    ensures tree { MatchResult result (λ r. MaybeOf expr_seen (Mark sign_.Colon) OfType 0 (lexemes pieces.now) names.new from node r)
+        (λ f. MaybeFaults (Mark sign_.Colon) OfType 0 (lexemes pieces.now) names.old names.new from f) }
     ensures grows { Grows names.old names.new }
     ensures further { IfOk result (λ r. from ≤ r.end) }
     ensures within { IfOk result (λ r. r.end ≤ length pieces.now) }
@@ -53,7 +55,8 @@ pub fn maybe_type(
     })
 }
 
-/// A type behind a `:`.
+/// Reads a type behind a `:`. `Unexpected` has the first token with which none goes on,
+/// `NoMemory` comes where a part of the tree or a name finds no memory.
 pub fn of_type(
     alloc: Global,
     pieces: &[Piece],
@@ -64,7 +67,8 @@ pub fn of_type(
     requires within { from ≤ length pieces.now }
     requires node { node + length pieces.now < 2 ^ 32 + from }
     requires names { length names.old + length pieces.now < 2 ^ 32 + from }
-    ensures tree { MatchResult result (λ r. ReadsOf expr_seen OfType 0 (lexemes pieces.now) names.new from node r) (λ f. Faults OfType 0 (lexemes pieces.now) names.old names.new from f) }
+    ensures tree { MatchResult result (λ r. ReadsOf expr_seen OfType 0 (lexemes pieces.now) names.new from node r)
+        (λ f. Faults OfType 0 (lexemes pieces.now) names.old names.new from f) }
     ensures grows { Grows names.old names.new }
     ensures further { IfOk result (λ r. from < r.end) }
     ensures within { IfOk result (λ r. r.end ≤ length pieces.now) }
@@ -82,7 +86,8 @@ pub fn of_type(
     })
 }
 
-/// A value behind a `=`, where one stands.
+/// Reads a value behind a `=`, where a `=` stands. `Unexpected` has the first token with which none goes on,
+/// `NoMemory` comes where a part of the tree or a name finds no memory.
 pub fn maybe_value(
     alloc: Global,
     pieces: &[Piece],
@@ -93,7 +98,8 @@ pub fn maybe_value(
     requires within { from ≤ length pieces.now }
     requires node { node + length pieces.now < 2 ^ 32 + from }
     requires names { length names.old + length pieces.now < 2 ^ 32 + from }
-    ensures tree { MatchResult result (λ r. MaybeOf expr_seen (Mark sign_.Equal) HasValue 7 (lexemes pieces.now) names.new from node r) (λ f. MaybeFaults (Mark sign_.Equal) HasValue 7 (lexemes pieces.now) names.old names.new from f) }
+    ensures tree { MatchResult result (λ r. MaybeOf expr_seen (Mark sign_.Equal) HasValue 7 (lexemes pieces.now) names.new from node r)
+        (λ f. MaybeFaults (Mark sign_.Equal) HasValue 7 (lexemes pieces.now) names.old names.new from f) }
     ensures grows { Grows names.old names.new }
     ensures further { IfOk result (λ r. from ≤ r.end) }
     ensures within { IfOk result (λ r. r.end ≤ length pieces.now) }
@@ -115,7 +121,8 @@ pub fn maybe_value(
     })
 }
 
-/// A value behind a `=`.
+/// Reads a value behind a `=`. `Unexpected` has the first token with which none goes on,
+/// `NoMemory` comes where a part of the tree or a name finds no memory.
 pub fn has_value(
     alloc: Global,
     pieces: &[Piece],
@@ -126,7 +133,8 @@ pub fn has_value(
     requires within { from ≤ length pieces.now }
     requires node { node + length pieces.now < 2 ^ 32 + from }
     requires names { length names.old + length pieces.now < 2 ^ 32 + from }
-    ensures tree { MatchResult result (λ r. ReadsOf expr_seen HasValue 7 (lexemes pieces.now) names.new from node r) (λ f. Faults HasValue 7 (lexemes pieces.now) names.old names.new from f) }
+    ensures tree { MatchResult result (λ r. ReadsOf expr_seen HasValue 7 (lexemes pieces.now) names.new from node r)
+        (λ f. Faults HasValue 7 (lexemes pieces.now) names.old names.new from f) }
     ensures grows { Grows names.old names.new }
     ensures further { IfOk result (λ r. from < r.end) }
     ensures within { IfOk result (λ r. r.end ≤ length pieces.now) }
@@ -144,7 +152,8 @@ pub fn has_value(
     })
 }
 
-/// What stands behind the keyword of a `const` or a `let`.
+/// Reads what stands behind the keyword of a `const` or a `let`: a name, a type where one stands, and a value. `Unexpected` has the first token with which none goes on,
+/// `NoMemory` comes where a part of the tree or a name finds no memory.
 pub fn bound(
     alloc: Global,
     pieces: &[Piece],
@@ -156,7 +165,8 @@ pub fn bound(
     requires within { from ≤ length pieces.now }
     requires node { node + length pieces.now < 2 ^ 32 + from }
     requires names { length names.old + length pieces.now < 2 ^ 32 + from }
-    ensures tree { MatchResult result (λ r. ReadsOf binding_seen (Bound keyword) 7 (lexemes pieces.now) names.new from node r) (λ f. Faults (Bound keyword) 7 (lexemes pieces.now) names.old names.new from f) }
+    ensures tree { MatchResult result (λ r. ReadsOf binding_seen (Bound keyword) 7 (lexemes pieces.now) names.new from node r)
+        (λ f. Faults (Bound keyword) 7 (lexemes pieces.now) names.old names.new from f) }
     ensures grows { Grows names.old names.new }
     ensures further { IfOk result (λ r. from < r.end) }
     ensures within { IfOk result (λ r. r.end ≤ length pieces.now) }
@@ -191,7 +201,8 @@ fn access(
     requires within { from ≤ length pieces.now }
     requires node { node + length pieces.now < 2 ^ 32 + from }
     requires names { length names.old + length pieces.now < 2 ^ 32 + from }
-    ensures tree { MatchResult result (λ r. ReadsOf access_seen SpaceEnd 0 (lexemes pieces.now) names.new from node r) (λ f. Faults SpaceEnd 0 (lexemes pieces.now) names.old names.new from f) }
+    ensures tree { MatchResult result (λ r. ReadsOf access_seen SpaceEnd 0 (lexemes pieces.now) names.new from node r)
+        (λ f. Faults SpaceEnd 0 (lexemes pieces.now) names.old names.new from f) }
     ensures grows { Grows names.old names.new }
     ensures further { IfOk result (λ r. from < r.end) }
     ensures within { IfOk result (λ r. r.end ≤ length pieces.now) }
@@ -234,7 +245,8 @@ fn maybe_space(
     requires within { from ≤ length pieces.now }
     requires node { node + length pieces.now < 2 ^ 32 + from }
     requires names { length names.old + length pieces.now < 2 ^ 32 + from }
-    ensures tree { MatchResult result (λ r. MaybeOf var_space_seen (Mark sign_.OpenTemplate) VarSpacePhrase 0 (lexemes pieces.now) names.new from node r) (λ f. MaybeFaults (Mark sign_.OpenTemplate) VarSpacePhrase 0 (lexemes pieces.now) names.old names.new from f) }
+    ensures tree { MatchResult result (λ r. MaybeOf var_space_seen (Mark sign_.OpenTemplate) VarSpacePhrase 0 (lexemes pieces.now) names.new from node r)
+        (λ f. MaybeFaults (Mark sign_.OpenTemplate) VarSpacePhrase 0 (lexemes pieces.now) names.old names.new from f) }
     ensures grows { Grows names.old names.new }
     ensures further { IfOk result (λ r. from ≤ r.end) }
     ensures within { IfOk result (λ r. r.end ≤ length pieces.now) }
@@ -262,7 +274,8 @@ fn maybe_space(
     })
 }
 
-/// A declaration by `var`.
+/// Reads a declaration by `var`, up to what stands behind its name, type and value. `Unexpected` has the first token with which none goes on,
+/// `NoMemory` comes where a part of the tree or a name finds no memory.
 pub fn var(
     alloc: Global,
     pieces: &[Piece],
@@ -273,7 +286,8 @@ pub fn var(
     requires within { from ≤ length pieces.now }
     requires node { node + length pieces.now < 2 ^ 32 + from }
     requires names { length names.old + length pieces.now < 2 ^ 32 + from }
-    ensures tree { MatchResult result (λ r. ReadsOf var_seen VarPhrase 8 (lexemes pieces.now) names.new from node r) (λ f. Faults VarPhrase 8 (lexemes pieces.now) names.old names.new from f) }
+    ensures tree { MatchResult result (λ r. ReadsOf var_seen VarPhrase 8 (lexemes pieces.now) names.new from node r)
+        (λ f. Faults VarPhrase 8 (lexemes pieces.now) names.old names.new from f) }
     ensures grows { Grows names.old names.new }
     ensures further { IfOk result (λ r. from < r.end) }
     ensures within { IfOk result (λ r. r.end ≤ length pieces.now) }

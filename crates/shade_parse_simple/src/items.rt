@@ -5,7 +5,7 @@ ghost use Rattle.std.specs.Prelude.{◌≡◌, ◌++◌, ◌∷◌, [], MatchRes
 use shade_cursor::part::Fault;
 use sqlite_items::Items;
 
-/// One item more. Takes memory where the list is full; without it the answer is `NoMemory`.
+/// Puts one item more at the end of a list. Takes memory where the list is full; without it the answer is `NoMemory`.
 pub fn push<T: Drop>(items: &mut Items<T>, item: T) -> Result<(), Fault>
     ensures { MatchResult result (λ u. items.new ≡ items.old ++ item ∷ []) (λ f. f ≡ Fault.NoMemory) }
 {

@@ -16,7 +16,8 @@ use shade_cursor::builds::number;
 use shade_cursor::part::Fault;
 use shade_cursor::piece::{Piece, mark_at, word_at};
 
-/// A name.
+/// Reads the name that begins at a token. `Unexpected` has that token where it is no name, `NoMemory` comes where a name that
+/// is new finds no memory.
 pub fn name(
     pieces: &[Piece],
     names: &mut Names,
@@ -26,7 +27,8 @@ pub fn name(
     requires within { from ≤ length pieces.now }
     requires node { node + length pieces.now < 2 ^ 32 + from }
     requires names { length names.old + length pieces.now < 2 ^ 32 + from }
-    ensures tree { MatchResult result (λ r. ReadsOf named_seen Name 0 (lexemes pieces.now) names.new from node r) (λ f. Faults Name 0 (lexemes pieces.now) names.old names.new from f) }
+    ensures tree { MatchResult result (λ r. ReadsOf named_seen Name 0 (lexemes pieces.now) names.new from node r)
+        (λ f. Faults Name 0 (lexemes pieces.now) names.old names.new from f) }
     ensures grows { Grows names.old names.new }
     ensures further { IfOk result (λ r. from < r.end) }
     ensures within { IfOk result (λ r. r.end ≤ length pieces.now) }
@@ -44,12 +46,13 @@ pub fn name(
     })
 }
 
-/// A comma, which may be left out, and a mark that closes: whether the comma stands there, and the number of the token
-/// behind the mark.
+/// Reads a mark that closes a list, and the comma before it where one stands: tells whether the comma stands there, and the
+/// number of the token behind the mark. `Unexpected` has the first token with which neither goes on. Takes no memory.
 pub fn closed(pieces: &[Piece], from: usize, closer: Sign) -> Result<(bool, usize), Fault>
     requires within { from ≤ length pieces.now }
     requires closer { ¬ (closer ≡ sign_.Comma) }
-    ensures tree { MatchResult result (λ r. Reads (Ending closer) 0 (lexemes pieces.now) from r.0 r.1) (λ f. Faults (Ending closer) 0 (lexemes pieces.now) [] [] from f) }
+    ensures tree { MatchResult result (λ r. Reads (Ending closer) 0 (lexemes pieces.now) from r.0 r.1)
+        (λ f. Faults (Ending closer) 0 (lexemes pieces.now) [] [] from f) }
     ensures further { IfOk result (λ r. from < r.1) }
     ensures within { IfOk result (λ r. r.1 ≤ length pieces.now) }
 {

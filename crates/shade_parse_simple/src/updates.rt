@@ -20,7 +20,7 @@ use shade_cursor::piece::{Piece, key_at, mark_at};
 use shade_parse_expr::parse::{call_only, expression, left_side};
 use std::alloc::Global;
 
-/// A statement that may begin a `for`. `Unexpected` has the first token with which none goes on, `NoMemory` comes where a part
+/// Reads a statement that may begin a `for`. `Unexpected` has the first token with which none goes on, `NoMemory` comes where a part
 /// of the tree or a name finds no memory.
 pub fn simple(
     alloc: Global,
@@ -32,7 +32,8 @@ pub fn simple(
     requires within { from ≤ length pieces.now }
     requires node { node + length pieces.now < 2 ^ 32 + from }
     requires names { length names.old + length pieces.now < 2 ^ 32 + from }
-    ensures tree { MatchResult result (λ r. ReadsOf simple_seen SimpleStatement 8 (lexemes pieces.now) names.new from node r) (λ f. Faults SimpleStatement 8 (lexemes pieces.now) names.old names.new from f) }
+    ensures tree { MatchResult result (λ r. ReadsOf simple_seen SimpleStatement 8 (lexemes pieces.now) names.new from node r)
+        (λ f. Faults SimpleStatement 8 (lexemes pieces.now) names.old names.new from f) }
     ensures grows { Grows names.old names.new }
     ensures further { IfOk result (λ r. from < r.end) }
     ensures within { IfOk result (λ r. r.end ≤ length pieces.now) }
@@ -71,7 +72,7 @@ pub fn simple(
     })
 }
 
-/// An assignment, an increment, a decrement or a call. `Unexpected` has the first token with which none goes on, `NoMemory`
+/// Reads an assignment, an increment, a decrement or a call. `Unexpected` has the first token with which none goes on, `NoMemory`
 /// comes where a part of the tree or a name finds no memory.
 pub fn update(
     alloc: Global,
@@ -83,7 +84,8 @@ pub fn update(
     requires within { from ≤ length pieces.now }
     requires node { node + length pieces.now < 2 ^ 32 + from }
     requires names { length names.old + length pieces.now < 2 ^ 32 + from }
-    ensures tree { MatchResult result (λ r. ReadsOf update_seen UpdateOf 7 (lexemes pieces.now) names.new from node r) (λ f. Faults UpdateOf 7 (lexemes pieces.now) names.old names.new from f) }
+    ensures tree { MatchResult result (λ r. ReadsOf update_seen UpdateOf 7 (lexemes pieces.now) names.new from node r)
+        (λ f. Faults UpdateOf 7 (lexemes pieces.now) names.old names.new from f) }
     ensures grows { Grows names.old names.new }
     ensures further { IfOk result (λ r. from < r.end) }
     ensures within { IfOk result (λ r. r.end ≤ length pieces.now) }
@@ -117,7 +119,8 @@ fn phony(
     requires within { from ≤ length pieces.now }
     requires node { node + length pieces.now < 2 ^ 32 + from }
     requires names { length names.old + length pieces.now < 2 ^ 32 + from }
-    ensures tree { MatchResult result (λ r. ReadsOf update_seen UpdateOf 7 (lexemes pieces.now) names.new from node r) (λ f. Faults UpdateOf 7 (lexemes pieces.now) names.old names.new from f) }
+    ensures tree { MatchResult result (λ r. ReadsOf update_seen UpdateOf 7 (lexemes pieces.now) names.new from node r)
+        (λ f. Faults UpdateOf 7 (lexemes pieces.now) names.old names.new from f) }
     ensures grows { Grows names.old names.new }
     ensures further { IfOk result (λ r. from < r.end) }
     ensures within { IfOk result (λ r. r.end ≤ length pieces.now) }
@@ -151,7 +154,8 @@ fn changed(
     requires within { from ≤ length pieces.now }
     requires node { node + length pieces.now < 2 ^ 32 + from }
     requires names { length names.old + length pieces.now < 2 ^ 32 + from }
-    ensures tree { MatchResult result (λ r. ReadsOf update_seen UpdateOf 7 (lexemes pieces.now) names.new from node r) (λ f. Faults UpdateOf 7 (lexemes pieces.now) names.old names.new from f) }
+    ensures tree { MatchResult result (λ r. ReadsOf update_seen UpdateOf 7 (lexemes pieces.now) names.new from node r)
+        (λ f. Faults UpdateOf 7 (lexemes pieces.now) names.old names.new from f) }
     ensures grows { Grows names.old names.new }
     ensures further { IfOk result (λ r. from < r.end) }
     ensures within { IfOk result (λ r. r.end ≤ length pieces.now) }

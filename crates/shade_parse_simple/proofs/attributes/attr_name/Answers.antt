@@ -13,7 +13,9 @@ pub returns-in-Some-key_at-clause-tree : goal.returns-in-Some-key_at-clause-tree
 returns-in-Some-key_at-clause-tree c = record { reads = attr_const_reads (within c.args.pieces.now c.args.from c.requires.within) c.in_default.ensures.value _ c.in-Some-key_at.ensures.value; known = omega arith; nodes = refl }
 
 pub returns-in_err-name-clause-tree : goal.returns-in_err-name-clause-tree
-returns-in_err-name-clause-tree c = errs _ c.in_err-name.field-0.0 _ _ c.from_residual.ensures.1 (fault_on AttrName Name 0 0 (lexemes c.args.pieces.now) c.args.names.now c.args.names.now _ c.args.from c.args.from c.in_err-name.field-0.0 (omega arith) (λ to f. attr_name_fails (within c.args.pieces.now c.args.from c.requires.within) c.in_default.ensures.value c.in_default-key_at.ensures.value f) c.in_err-name.ensures.tree)
+returns-in_err-name-clause-tree c = errs _ c.in_err-name.field-0.0 _ _ c.from_residual.ensures.1
+    (fault_on AttrName Name 0 0 (lexemes c.args.pieces.now) c.args.names.now c.args.names.now _ c.args.from c.args.from c.in_err-name.field-0.0 (omega arith)
+    (λ to f. attr_name_fails (within c.args.pieces.now c.args.from c.requires.within) c.in_default.ensures.value c.in_default-key_at.ensures.value f) c.in_err-name.ensures.tree)
 
 pub returns-clause-tree : goal.returns-clause-tree
 returns-clause-tree c = record { reads = attr_name_reads (within c.args.pieces.now c.args.from c.requires.within) c.in_default.ensures.value c.in_default-key_at.ensures.value c.in_ok-name.ensures.tree.reads; known = c.in_ok-name.ensures.tree.known; nodes = c.in_ok-name.ensures.tree.nodes }

@@ -15,10 +15,16 @@ pub returns-in_default-clause-tree : goal.returns-in_default-clause-tree
 returns-in_default-clause-tree c = fails_here Attribute 1 (lexemes c.args.pieces.now) c.args.names.now c.args.names.now c.args.from c.args.from (omega arith) (attr_none (within c.args.pieces.now c.args.from c.requires.within) c.in_default.ensures.value)
 
 pub returns-in_err-name-clause-tree : goal.returns-in_err-name-clause-tree
-returns-in_err-name-clause-tree c = errs _ c.in_err-name.field-0.0 _ _ c.from_residual.ensures.1 (fault_on Attribute AttrName 1 0 (lexemes c.args.pieces.now) c.args.names.now c.args.names.now _ c.args.from (c.args.from + 1) c.in_err-name.field-0.0 (omega arith) (λ to f. attr_named_fails (within c.args.pieces.now c.args.from c.requires.within) _ c.in-Some.ensures.value f) c.in_err-name.ensures.tree)
+returns-in_err-name-clause-tree c = errs _ c.in_err-name.field-0.0 _ _ c.from_residual.ensures.1
+    (fault_on Attribute AttrName 1 0 (lexemes c.args.pieces.now) c.args.names.now c.args.names.now _ c.args.from (c.args.from + 1) c.in_err-name.field-0.0 (omega arith)
+    (λ to f. attr_named_fails (within c.args.pieces.now c.args.from c.requires.within) _ c.in-Some.ensures.value f) c.in_err-name.ensures.tree)
 
 pub returns-in_err-listed-clause-tree : goal.returns-in_err-listed-clause-tree
-returns-in_err-listed-clause-tree c = errs _ c.in_err-listed.field-0.0 _ _ c.from_residual-in_err-listed.ensures.1 (fault_of Attribute AttrArguments 1 0 (lexemes c.args.pieces.now) c.args.names.now c.attr_name.new.names _ c.args.from c.in_ok-name.name.end (omega (arith, c.in_ok-name.ensures.names)) (Mark sign.Open) c.in_err-listed.field-0.0 (λ to t lt f. attr_arguments_fails (within c.args.pieces.now c.args.from c.requires.within) _ c.in-Some.ensures.value c.in_ok-name.ensures.tree.reads t lt f) c.in_err-listed.ensures.tree)
+returns-in_err-listed-clause-tree c = errs _ c.in_err-listed.field-0.0 _ _ c.from_residual-in_err-listed.ensures.1
+    (fault_of Attribute AttrArguments 1 0 (lexemes c.args.pieces.now) c.args.names.now c.attr_name.new.names _ c.args.from c.in_ok-name.name.end (omega (arith, c.in_ok-name.ensures.names))
+    (Mark sign.Open) c.in_err-listed.field-0.0
+    (λ to t lt f. attr_arguments_fails (within c.args.pieces.now c.args.from c.requires.within) _ c.in-Some.ensures.value c.in_ok-name.ensures.tree.reads t lt f)
+    c.in_err-listed.ensures.tree)
 
 pub returns-clause-tree : goal.returns-clause-tree
 returns-clause-tree c = attr_tree (within c.args.pieces.now c.args.from c.requires.within) c.in-Some.ensures.value (widen attr_name_keeps c.in_ok-listed.ensures.grows c.in_ok-name.ensures.tree) c.in_ok-listed.ensures.tree

@@ -13,13 +13,22 @@ use Rattle.shade_parse_simple.proofs.BindingLaws.{bound_name_fails, bound_type_f
 use Rattle.shade_parse_simple.proofs.bindings.bound.Goals as goal
 
 pub returns-in_err-name-clause-tree : goal.returns-in_err-name-clause-tree
-returns-in_err-name-clause-tree c = errs _ c.in_err-name.field-0.0 _ _ c.from_residual.ensures.1 (fault_on (Bound c.args.keyword) Name 7 0 (lexemes c.args.pieces.now) c.args.names.now c.args.names.now _ c.args.from c.args.from c.in_err-name.field-0.0 (omega arith) (λ to f. bound_name_fails c.args.keyword (within c.args.pieces.now c.args.from c.requires.within) f) c.in_err-name.ensures.tree)
+returns-in_err-name-clause-tree c = errs _ c.in_err-name.field-0.0 _ _ c.from_residual.ensures.1
+    (fault_on (Bound c.args.keyword) Name 7 0 (lexemes c.args.pieces.now) c.args.names.now c.args.names.now _ c.args.from c.args.from c.in_err-name.field-0.0 (omega arith)
+    (λ to f. bound_name_fails c.args.keyword (within c.args.pieces.now c.args.from c.requires.within) f) c.in_err-name.ensures.tree)
 
 pub returns-in_err-ty-clause-tree : goal.returns-in_err-ty-clause-tree
-returns-in_err-ty-clause-tree c = errs _ c.in_err-ty.field-0.0 _ _ c.from_residual-in_err-ty.ensures.1 (fault_of (Bound c.args.keyword) OfType 7 0 (lexemes c.args.pieces.now) c.args.names.now c.name.new.names _ c.args.from c.in_ok-name.name.end (omega (arith, c.in_ok-name.ensures.names)) (Mark sign.Colon) c.in_err-ty.field-0.0 (λ to t lt f. bound_type_fails c.args.keyword (within c.args.pieces.now c.args.from c.requires.within) c.in_ok-name.ensures.tree.reads t lt f) c.in_err-ty.ensures.tree)
+returns-in_err-ty-clause-tree c = errs _ c.in_err-ty.field-0.0 _ _ c.from_residual-in_err-ty.ensures.1
+    (fault_of (Bound c.args.keyword) OfType 7 0 (lexemes c.args.pieces.now) c.args.names.now c.name.new.names _ c.args.from c.in_ok-name.name.end (omega (arith, c.in_ok-name.ensures.names))
+    (Mark sign.Colon) c.in_err-ty.field-0.0 (λ to t lt f. bound_type_fails c.args.keyword (within c.args.pieces.now c.args.from c.requires.within) c.in_ok-name.ensures.tree.reads t lt f)
+    c.in_err-ty.ensures.tree)
 
 pub returns-in-Err-clause-tree : goal.returns-in-Err-clause-tree
-returns-in-Err-clause-tree c = errs _ c.in-Err.fault _ _ c.refuse.ensures (fault_on (Bound c.args.keyword) HasValue 7 7 (lexemes c.args.pieces.now) c.args.names.now c.maybe_type.new.names _ c.args.from c.in_ok-ty.ty.end c.in-Err.fault (omega (arith, c.in_ok-name.ensures.names, c.in_ok-ty.ensures.names)) (λ to f. bound_value_fails c.args.keyword (within c.args.pieces.now c.args.from c.requires.within) (widen named_keeps c.in_ok-ty.ensures.grows c.in_ok-name.ensures.tree).reads _ _ c.in_ok-ty.ensures.tree.reads f) c.in-Err.ensures.tree)
+returns-in-Err-clause-tree c = errs _ c.in-Err.fault _ _ c.refuse.ensures
+    (fault_on (Bound c.args.keyword) HasValue 7 7 (lexemes c.args.pieces.now) c.args.names.now c.maybe_type.new.names _ c.args.from c.in_ok-ty.ty.end c.in-Err.fault
+    (omega (arith, c.in_ok-name.ensures.names, c.in_ok-ty.ensures.names))
+    (λ to f. bound_value_fails c.args.keyword (within c.args.pieces.now c.args.from c.requires.within) (widen named_keeps c.in_ok-ty.ensures.grows c.in_ok-name.ensures.tree).reads _ _
+    c.in_ok-ty.ensures.tree.reads f) c.in-Err.ensures.tree)
 
 pub returns-clause-tree : goal.returns-clause-tree
 returns-clause-tree c = bound_tree (within c.args.pieces.now c.args.from c.requires.within) (widen named_keeps (grows_trans _ _ _ c.in_ok-ty.ensures.grows c.in-Ok.ensures.grows) c.in_ok-name.ensures.tree) (widen_maybe expr_keeps c.in-Ok.ensures.grows c.in_ok-ty.ensures.tree) c.in-Ok.ensures.tree

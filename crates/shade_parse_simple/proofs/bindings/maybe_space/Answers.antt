@@ -14,13 +14,23 @@ use Rattle.shade_parse_simple.proofs.BindingLaws.{space_rest_name_fails, space_r
 use Rattle.shade_parse_simple.proofs.bindings.maybe_space.Goals as goal
 
 pub returns-in_err-space-clause-tree : goal.returns-in_err-space-clause-tree
-returns-in_err-space-clause-tree c = errs _ c.in_err-space.field-0.0 _ _ c.from_residual.ensures.1 (fault_in VarSpace Name 0 0 (lexemes c.args.pieces.now) c.args.names.now c.args.names.now _ c.args.from (c.args.from + 1) (omega arith) (Mark sign.OpenTemplate) (_, c.in-Some.ensures.value) (omega arith) c.in_err-space.field-0.0 (λ to f. opened_fails var_space_opens (omega arith) (within c.args.pieces.now c.args.from c.requires.within) (λ p. refl) _ c.in-Some.ensures.value (space_rest_name_fails (within c.args.pieces.now (c.args.from + 1) (omega (arith, c.in-Some.ensures.within))) f)) c.in_err-space.ensures.tree)
+returns-in_err-space-clause-tree c = errs _ c.in_err-space.field-0.0 _ _ c.from_residual.ensures.1
+    (fault_in VarSpace Name 0 0 (lexemes c.args.pieces.now) c.args.names.now c.args.names.now _ c.args.from (c.args.from + 1) (omega arith) (Mark sign.OpenTemplate)
+    (_, c.in-Some.ensures.value) (omega arith) c.in_err-space.field-0.0
+    (λ to f. opened_fails var_space_opens (omega arith) (within c.args.pieces.now c.args.from c.requires.within) (λ p. refl) _ c.in-Some.ensures.value
+    (space_rest_name_fails (within c.args.pieces.now (c.args.from + 1) (omega (arith, c.in-Some.ensures.within))) f)) c.in_err-space.ensures.tree)
 
 pub returns-in_err-access-clause-tree : goal.returns-in_err-access-clause-tree
-returns-in_err-access-clause-tree c = errs _ c.in_err-access.field-0.0 _ _ c.from_residual-in_err-access.ensures.1 (fault_in VarSpace SpaceEnd 0 0 (lexemes c.args.pieces.now) c.args.names.now c.name.new.names _ c.args.from c.in_ok-space.space.end (omega (arith, c.in_ok-space.ensures.names)) (Mark sign.OpenTemplate) (_, c.in-Some.ensures.value) (omega (arith, c.in_ok-space.ensures.further)) c.in_err-access.field-0.0 (λ to f. opened_fails var_space_opens (omega arith) (within c.args.pieces.now c.args.from c.requires.within) (λ p. refl) _ c.in-Some.ensures.value (space_rest_end_fails (within c.args.pieces.now (c.args.from + 1) (omega (arith, c.in-Some.ensures.within))) c.in_ok-space.ensures.tree.reads f)) c.in_err-access.ensures.tree)
+returns-in_err-access-clause-tree c = errs _ c.in_err-access.field-0.0 _ _ c.from_residual-in_err-access.ensures.1
+    (fault_in VarSpace SpaceEnd 0 0 (lexemes c.args.pieces.now) c.args.names.now c.name.new.names _ c.args.from c.in_ok-space.space.end (omega (arith, c.in_ok-space.ensures.names))
+    (Mark sign.OpenTemplate) (_, c.in-Some.ensures.value) (omega (arith, c.in_ok-space.ensures.further)) c.in_err-access.field-0.0
+    (λ to f. opened_fails var_space_opens (omega arith) (within c.args.pieces.now c.args.from c.requires.within) (λ p. refl) _ c.in-Some.ensures.value
+    (space_rest_end_fails (within c.args.pieces.now (c.args.from + 1) (omega (arith, c.in-Some.ensures.within))) c.in_ok-space.ensures.tree.reads f)) c.in_err-access.ensures.tree)
 
 pub returns-clause-tree : goal.returns-clause-tree
-returns-clause-tree c = space_tree (within c.args.pieces.now c.args.from c.requires.within) c.in-Some.ensures.value (within c.args.pieces.now (c.args.from + 1) (omega (arith, c.in-Some.ensures.within))) (omega (arith, c.in_ok-space.ensures.further, c.in_ok-access.ensures.further)) (widen named_keeps c.in_ok-access.ensures.grows c.in_ok-space.ensures.tree) c.in_ok-access.ensures.tree
+returns-clause-tree c = space_tree (within c.args.pieces.now c.args.from c.requires.within) c.in-Some.ensures.value
+    (within c.args.pieces.now (c.args.from + 1) (omega (arith, c.in-Some.ensures.within))) (omega (arith, c.in_ok-space.ensures.further, c.in_ok-access.ensures.further))
+    (widen named_keeps c.in_ok-access.ensures.grows c.in_ok-space.ensures.tree) c.in_ok-access.ensures.tree
 
 pub access-requires-clause-within : goal.access-requires-clause-within
 access-requires-clause-within c = omega (arith, c.in_ok-space.ensures.within)

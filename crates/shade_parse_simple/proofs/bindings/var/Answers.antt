@@ -15,19 +15,35 @@ pub returns-in_default-clause-tree : goal.returns-in_default-clause-tree
 returns-in_default-clause-tree c = fails_here Var 8 (lexemes c.args.pieces.now) c.args.names.now c.args.names.now c.args.from c.args.from (omega arith) (var_none (within c.args.pieces.now c.args.from c.requires.within) c.in_default.ensures.value)
 
 pub returns-in_err-space-clause-tree : goal.returns-in_err-space-clause-tree
-returns-in_err-space-clause-tree c = errs _ c.in_err-space.field-0.0 _ _ c.from_residual.ensures.1 (fault_of Var VarSpace 8 0 (lexemes c.args.pieces.now) c.args.names.now c.args.names.now _ c.args.from (c.args.from + 1) (omega arith) (Mark sign.OpenTemplate) c.in_err-space.field-0.0 (λ to t lt f. var_space_fails (within c.args.pieces.now c.args.from c.requires.within) _ c.in-Some.ensures.value t lt f) c.in_err-space.ensures.tree)
+returns-in_err-space-clause-tree c = errs _ c.in_err-space.field-0.0 _ _ c.from_residual.ensures.1
+    (fault_of Var VarSpace 8 0 (lexemes c.args.pieces.now) c.args.names.now c.args.names.now _ c.args.from (c.args.from + 1) (omega arith) (Mark sign.OpenTemplate) c.in_err-space.field-0.0
+    (λ to t lt f. var_space_fails (within c.args.pieces.now c.args.from c.requires.within) _ c.in-Some.ensures.value t lt f) c.in_err-space.ensures.tree)
 
 pub returns-in_err-name-clause-tree : goal.returns-in_err-name-clause-tree
-returns-in_err-name-clause-tree c = errs _ c.in_err-name.field-0.0 _ _ c.from_residual-in_err-name.ensures.1 (fault_on Var Name 8 0 (lexemes c.args.pieces.now) c.args.names.now c.maybe_space.new.names _ c.args.from c.in_ok-space.space.end c.in_err-name.field-0.0 (omega (arith, c.in_ok-space.ensures.names)) (λ to f. var_name_fails (within c.args.pieces.now c.args.from c.requires.within) _ c.in-Some.ensures.value _ _ c.in_ok-space.ensures.tree.reads f) c.in_err-name.ensures.tree)
+returns-in_err-name-clause-tree c = errs _ c.in_err-name.field-0.0 _ _ c.from_residual-in_err-name.ensures.1
+    (fault_on Var Name 8 0 (lexemes c.args.pieces.now) c.args.names.now c.maybe_space.new.names _ c.args.from c.in_ok-space.space.end c.in_err-name.field-0.0
+    (omega (arith, c.in_ok-space.ensures.names))
+    (λ to f. var_name_fails (within c.args.pieces.now c.args.from c.requires.within) _ c.in-Some.ensures.value _ _ c.in_ok-space.ensures.tree.reads f) c.in_err-name.ensures.tree)
 
 pub returns-in_err-ty-clause-tree : goal.returns-in_err-ty-clause-tree
-returns-in_err-ty-clause-tree c = errs _ c.in_err-ty.field-0.0 _ _ c.from_residual-in_err-ty.ensures.1 (fault_of Var OfType 8 0 (lexemes c.args.pieces.now) c.args.names.now c.name.new.names _ c.args.from c.in_ok-name.name.end (omega (arith, c.in_ok-space.ensures.names, c.in_ok-name.ensures.names)) (Mark sign.Colon) c.in_err-ty.field-0.0 (λ to t lt f. var_type_fails (within c.args.pieces.now c.args.from c.requires.within) _ c.in-Some.ensures.value _ _ c.in_ok-space.ensures.tree.reads c.in_ok-name.ensures.tree.reads t lt f) c.in_err-ty.ensures.tree)
+returns-in_err-ty-clause-tree c = errs _ c.in_err-ty.field-0.0 _ _ c.from_residual-in_err-ty.ensures.1
+    (fault_of Var OfType 8 0 (lexemes c.args.pieces.now) c.args.names.now c.name.new.names _ c.args.from c.in_ok-name.name.end
+    (omega (arith, c.in_ok-space.ensures.names, c.in_ok-name.ensures.names)) (Mark sign.Colon) c.in_err-ty.field-0.0
+    (λ to t lt f. var_type_fails (within c.args.pieces.now c.args.from c.requires.within) _ c.in-Some.ensures.value _ _ c.in_ok-space.ensures.tree.reads c.in_ok-name.ensures.tree.reads t
+    lt f) c.in_err-ty.ensures.tree)
 
 pub returns-in-Err-clause-tree : goal.returns-in-Err-clause-tree
-returns-in-Err-clause-tree c = errs _ c.in-Err.fault _ _ c.refuse.ensures (fault_of Var HasValue 8 7 (lexemes c.args.pieces.now) c.args.names.now c.maybe_type.new.names _ c.args.from c.in_ok-ty.ty.end (omega (arith, c.in_ok-space.ensures.names, c.in_ok-name.ensures.names, c.in_ok-ty.ensures.names)) (Mark sign.Equal) c.in-Err.fault (λ to t lt f. var_value_fails (within c.args.pieces.now c.args.from c.requires.within) _ c.in-Some.ensures.value _ _ c.in_ok-space.ensures.tree.reads c.in_ok-name.ensures.tree.reads _ _ c.in_ok-ty.ensures.tree.reads t lt f) c.in-Err.ensures.tree)
+returns-in-Err-clause-tree c = errs _ c.in-Err.fault _ _ c.refuse.ensures
+    (fault_of Var HasValue 8 7 (lexemes c.args.pieces.now) c.args.names.now c.maybe_type.new.names _ c.args.from c.in_ok-ty.ty.end
+    (omega (arith, c.in_ok-space.ensures.names, c.in_ok-name.ensures.names, c.in_ok-ty.ensures.names)) (Mark sign.Equal) c.in-Err.fault
+    (λ to t lt f. var_value_fails (within c.args.pieces.now c.args.from c.requires.within) _ c.in-Some.ensures.value _ _ c.in_ok-space.ensures.tree.reads c.in_ok-name.ensures.tree.reads _
+    _ c.in_ok-ty.ensures.tree.reads t lt f) c.in-Err.ensures.tree)
 
 pub returns-clause-tree : goal.returns-clause-tree
-returns-clause-tree c = var_tree (within c.args.pieces.now c.args.from c.requires.within) c.in-Some.ensures.value (widen_maybe var_space_keeps (grows_trans _ _ _ c.in_ok-name.ensures.grows (grows_trans _ _ _ c.in_ok-ty.ensures.grows c.in-Ok.ensures.grows)) c.in_ok-space.ensures.tree) (widen named_keeps (grows_trans _ _ _ c.in_ok-ty.ensures.grows c.in-Ok.ensures.grows) c.in_ok-name.ensures.tree) (widen_maybe expr_keeps c.in-Ok.ensures.grows c.in_ok-ty.ensures.tree) c.in-Ok.ensures.tree
+returns-clause-tree c = var_tree (within c.args.pieces.now c.args.from c.requires.within) c.in-Some.ensures.value
+    (widen_maybe var_space_keeps (grows_trans _ _ _ c.in_ok-name.ensures.grows (grows_trans _ _ _ c.in_ok-ty.ensures.grows c.in-Ok.ensures.grows)) c.in_ok-space.ensures.tree)
+    (widen named_keeps (grows_trans _ _ _ c.in_ok-ty.ensures.grows c.in-Ok.ensures.grows) c.in_ok-name.ensures.tree) (widen_maybe expr_keeps c.in-Ok.ensures.grows c.in_ok-ty.ensures.tree)
+    c.in-Ok.ensures.tree
 
 pub name-requires-clause-within : goal.name-requires-clause-within
 name-requires-clause-within c = omega (arith, c.in_ok-space.ensures.within)

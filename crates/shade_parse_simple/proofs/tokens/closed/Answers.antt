@@ -13,7 +13,8 @@ pub returns-in_default-mark_at-clause-tree : goal.returns-in_default-mark_at-cla
 returns-in_default-mark_at-clause-tree c = fails_here (Ending c.args.closer) 0 (lexemes c.args.pieces.now) [] [] c.args.from c.args.from (omega arith) (ending_stuck c.args.closer (within c.args.pieces.now c.args.from c.requires.within) c.in_default.ensures.value c.in_default-mark_at.ensures.value)
 
 pub returns-in_default-mark_at-2-clause-tree : goal.returns-in_default-mark_at-2-clause-tree
-returns-in_default-mark_at-2-clause-tree c = fails_here (Ending c.args.closer) 0 (lexemes c.args.pieces.now) [] [] c.args.from (c.args.from + 1) (omega arith) (ending_open c.args.closer (within c.args.pieces.now c.args.from c.requires.within) c.in_default.ensures.value _ c.in-Some-mark_at.ensures.value c.in_default-mark_at-2.ensures.value)
+returns-in_default-mark_at-2-clause-tree c = fails_here (Ending c.args.closer) 0 (lexemes c.args.pieces.now) [] [] c.args.from (c.args.from + 1) (omega arith)
+    (ending_open c.args.closer (within c.args.pieces.now c.args.from c.requires.within) c.in_default.ensures.value _ c.in-Some-mark_at.ensures.value c.in_default-mark_at-2.ensures.value)
 
 pub returns-clause-tree : goal.returns-clause-tree
 returns-clause-tree c = reads_to (c.args.from + 1 + 1) (c.args.from + 2) (omega arith) (ending_reads c.args.closer (within c.args.pieces.now c.args.from c.requires.within) c.in_default.ensures.value _ c.in-Some-mark_at.ensures.value _ c.in-Some-mark_at-2.ensures.value)

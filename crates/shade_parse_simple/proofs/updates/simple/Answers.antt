@@ -10,25 +10,34 @@ use Rattle.shade_parse_simple.proofs.SimpleTrees.{variable_tree, constant_tree, 
 use Rattle.shade_parse_simple.proofs.updates.simple.Goals as goal
 
 pub returns-in_err-variable-clause-tree : goal.returns-in_err-variable-clause-tree
-returns-in_err-variable-clause-tree c = errs _ c.in_err-variable.field-0.0 _ _ c.from_residual.ensures.1 (fault_on SimpleStatement Var 8 8 (lexemes c.args.pieces.now) c.args.names.now c.args.names.now _ c.args.from c.args.from c.in_err-variable.field-0.0 (omega arith) (λ to f. by_var_fails (told_some _ _ _ (sym c.if-is_some.ensures) c.key_at.ensures.value) f) c.in_err-variable.ensures.tree)
+returns-in_err-variable-clause-tree c = errs _ c.in_err-variable.field-0.0 _ _ c.from_residual.ensures.1
+    (fault_on SimpleStatement Var 8 8 (lexemes c.args.pieces.now) c.args.names.now c.args.names.now _ c.args.from c.args.from c.in_err-variable.field-0.0 (omega arith)
+    (λ to f. by_var_fails (told_some _ _ _ (sym c.if-is_some.ensures) c.key_at.ensures.value) f) c.in_err-variable.ensures.tree)
 
 pub returns-then-is_some-clause-tree : goal.returns-then-is_some-clause-tree
 returns-then-is_some-clause-tree c = variable_tree (told_some _ _ _ (sym c.if-is_some.ensures) c.key_at.ensures.value) c.in_ok-variable.ensures.tree
 
 pub returns-in_err-constant-clause-tree : goal.returns-in_err-constant-clause-tree
-returns-in_err-constant-clause-tree c = errs _ c.in_err-constant.field-0.0 _ _ c.from_residual-in_err-constant.ensures.1 (fault_on SimpleStatement (Bound c.in-Some.keyword) 8 7 (lexemes c.args.pieces.now) c.args.names.now c.args.names.now _ c.args.from (c.args.from + 1) c.in_err-constant.field-0.0 (omega arith) (λ to f. by_const_fails (within c.args.pieces.now c.args.from c.requires.within) _ c.in-Some.ensures.value f) c.in_err-constant.ensures.tree)
+returns-in_err-constant-clause-tree c = errs _ c.in_err-constant.field-0.0 _ _ c.from_residual-in_err-constant.ensures.1
+    (fault_on SimpleStatement (Bound c.in-Some.keyword) 8 7 (lexemes c.args.pieces.now) c.args.names.now c.args.names.now _ c.args.from (c.args.from + 1) c.in_err-constant.field-0.0
+    (omega arith) (λ to f. by_const_fails (within c.args.pieces.now c.args.from c.requires.within) _ c.in-Some.ensures.value f) c.in_err-constant.ensures.tree)
 
 pub returns-in-Some-clause-tree : goal.returns-in-Some-clause-tree
 returns-in-Some-clause-tree c = constant_tree (within c.args.pieces.now c.args.from c.requires.within) c.in-Some.ensures.value c.in_ok-constant.ensures.tree
 
 pub returns-in_err-value-clause-tree : goal.returns-in_err-value-clause-tree
-returns-in_err-value-clause-tree c = errs _ c.in_err-value.field-0.0 _ _ c.from_residual-in_err-value.ensures.1 (fault_on SimpleStatement (Bound c.in-Some-key_at.keyword) 8 7 (lexemes c.args.pieces.now) c.args.names.now c.args.names.now _ c.args.from (c.args.from + 1) c.in_err-value.field-0.0 (omega arith) (λ to f. by_let_fails (within c.args.pieces.now c.args.from c.requires.within) _ c.in-Some-key_at.ensures.value f) c.in_err-value.ensures.tree)
+returns-in_err-value-clause-tree c = errs _ c.in_err-value.field-0.0 _ _ c.from_residual-in_err-value.ensures.1
+    (fault_on SimpleStatement (Bound c.in-Some-key_at.keyword) 8 7 (lexemes c.args.pieces.now) c.args.names.now c.args.names.now _ c.args.from (c.args.from + 1) c.in_err-value.field-0.0
+    (omega arith) (λ to f. by_let_fails (within c.args.pieces.now c.args.from c.requires.within) _ c.in-Some-key_at.ensures.value f) c.in_err-value.ensures.tree)
 
 pub returns-in-Some-key_at-clause-tree : goal.returns-in-Some-key_at-clause-tree
 returns-in-Some-key_at-clause-tree c = value_tree (within c.args.pieces.now c.args.from c.requires.within) c.in-Some-key_at.ensures.value c.in_ok-value.ensures.tree
 
 pub returns-in_err-changed-clause-tree : goal.returns-in_err-changed-clause-tree
-returns-in_err-changed-clause-tree c = errs _ c.in_err-changed.field-0.0 _ _ c.from_residual-in_err-changed.ensures.1 (fault_on SimpleStatement UpdateOf 8 7 (lexemes c.args.pieces.now) c.args.names.now c.args.names.now _ c.args.from c.args.from c.in_err-changed.field-0.0 (omega arith) (λ to f. by_update_fails (λ s. told_none _ _ _ (sym c.if-is_some.ensures) c.key_at.ensures.value s.0 s.1) (λ s. c.in_default.ensures.value s.0 s.1) (λ s. c.in_default-key_at.ensures.value s.0 s.1) f) c.in_err-changed.ensures.tree)
+returns-in_err-changed-clause-tree c = errs _ c.in_err-changed.field-0.0 _ _ c.from_residual-in_err-changed.ensures.1
+    (fault_on SimpleStatement UpdateOf 8 7 (lexemes c.args.pieces.now) c.args.names.now c.args.names.now _ c.args.from c.args.from c.in_err-changed.field-0.0 (omega arith)
+    (λ to f. by_update_fails (λ s. told_none _ _ _ (sym c.if-is_some.ensures) c.key_at.ensures.value s.0 s.1) (λ s. c.in_default.ensures.value s.0 s.1)
+    (λ s. c.in_default-key_at.ensures.value s.0 s.1) f) c.in_err-changed.ensures.tree)
 
 pub returns-clause-tree : goal.returns-clause-tree
 returns-clause-tree c = update_tree (λ s. told_none _ _ _ (sym c.if-is_some.ensures) c.key_at.ensures.value s.0 s.1) (λ s. c.in_default.ensures.value s.0 s.1) (λ s. c.in_default-key_at.ensures.value s.0 s.1) c.in_ok-changed.ensures.tree
