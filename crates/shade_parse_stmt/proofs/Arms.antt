@@ -157,13 +157,18 @@ module _ (tokens : List Lexeme) (size from : ℕ) (h : from ≤ length tokens) w
             list_fails OneArm ArmsEnd AllArms Free tokens from (Above 0) arm_first arms_end_first at to (map (arm_shaped mid) items) t.stage arms_end_closes f
             (λ r ys w stop k near. no_end tokens at p q is_else is_if to f.us (fails_nonempty OneArm (Above 0) tokens at (Key word.Else p) is_else to f (some_arm p q) (some_tokens p q) [] (some_reads p q) (omega arith)) f.spelled (map (arm_shaped mid) items) r ys w stop k near)
 
-        pub arms_more : (new : List (List ℕ)) → Grows mid new → (g : Read Guarded) → ReadsOfBy guarded_seen Guards (Above 0) tokens new (at + 2) next g → g.end ≤ size → g.node + (at + 2) ≤ next + g.end → length new + (at + 2) ≤ length mid + g.end → (a : Arm) → out-Arm a ≡ record { else_keyword = p; if_keyword = q; condition = g.tree.condition; body = g.tree.body } → (es : List Arm) → es ≡ items ++ a ∷ [] → ArmWalk tokens size start new from node es g.end g.node
+        pub arms_more : (new : List (List ℕ)) → Grows mid new → (g : Read Guarded) → ReadsOfBy guarded_seen Guards (Above 0) tokens new (at + 2) next g → g.end ≤ size →
+            g.node + (at + 2) ≤ next + g.end → length new + (at + 2) ≤ length mid + g.end → (a : Arm) →
+            out-Arm a ≡ record { else_keyword = p; if_keyword = q; condition = g.tree.condition; body = g.tree.body } → (es : List Arm) → es ≡ items ++ a ∷ [] →
+            ArmWalk tokens size start new from node es g.end g.node
         arms_more new grows g x within numbered few a parts es same =
             let y : ReadsBy OneArm (Above 0) tokens at (arm_shaped new a) g.end = subst (λ s. ReadsBy OneArm (Above 0) tokens at s g.end) (sym (arm_shaped_as a p q g.tree parts new)) (arm_reads tokens at p q is_else is_if (guarded_seen.shape new g.tree) g.end x.reads) in
             let needs : arm_count a ≡ guarded_seen.needs g.tree = arm_needs_as a p q g.tree parts in
             let known : guarded_seen.needs g.tree ≤ length new = x.known in
             walk_more arm_seen OneArm ArmsEnd AllArms Free tokens size arms_grow start mid new from node items at next t grows (Above 0) arm_first arms_end_first a es same g.end g.node y (omega arith) (subst (λ l. CountFrom next l g.node) (sym (arm_nodes_as a p q g.tree parts)) x.nodes)
-            (λ r ys w stop k near. no_end tokens at p q is_else is_if g.end y.us (reads_nonempty OneArm (Above 0) tokens at (Key word.Else p) is_else (arm_shaped new a) g.end y (λ w k. let bad : [] ≡ Key word.Else k.place ∷ k.others = k.split in cc)) y.spelled (map (arm_shaped new) items) r ys w stop k near)
+            (λ r ys w stop k near. no_end tokens at p q is_else is_if g.end y.us
+            (reads_nonempty OneArm (Above 0) tokens at (Key word.Else p) is_else (arm_shaped new a) g.end y (λ w k. let bad : [] ≡ Key word.Else k.place ∷ k.others = k.split in cc))
+            y.spelled (map (arm_shaped new) items) r ys w stop k near)
             within (omega arith) (omega arith)
 
       -- a last `else`
@@ -190,15 +195,27 @@ module _ (tokens : List Lexeme) (size from : ℕ) (h : from ≤ length tokens) w
                 record { part = g.rest.part; others = g.rest.others; phrase = subst (λ y. Block g.rest.part y g.rest.others) rest g.rest.phrase; rest = record { same = same ∙ ap (λ y. arm_shapes l (Some y)) (g.rest.rest.same ∙ ap (λ y. else_arm y g.rest.part) place); left = g.rest.rest.left ∙ left } }
 
         last_back : (l : List (ArmShapes → ArmShapes)) (r : ArmShapes) (zs w : List Lexeme) → LastBlock l r zs w → MoreThen OneArm ArmsEnd l r (Key word.Else p ∷ zs) w
-        last_back l r zs w a = choice_back OneArm ArmsEnd l r (Key word.Else p ∷ zs) w (inr (record { part = Some (else_arm p a.part); others = a.others; phrase = present (record { place = p; others = zs; split = refl; rest = record { part = a.part; others = a.others; phrase = a.phrase; rest = record { same = refl; left = refl } } }); rest = a.rest }))
+        last_back l r zs w a = choice_back OneArm ArmsEnd l r (Key word.Else p ∷ zs) w
+            (inr
+            (record {
+              part = Some (else_arm p a.part);
+              others = a.others;
+              phrase = present
+                  (record { place = p; others = zs; split = refl; rest = record { part = a.part; others = a.others; phrase = a.phrase; rest = record { same = refl; left = refl } } });
+              rest =
+                  a.rest;
+            }))
 
         last_stage : (l : List (ArmShapes → ArmShapes)) → Step AllArms Free tokens from at (MoreThen OneArm ArmsEnd l) → Step AllArms Free tokens from (at + 1) (LastBlock l)
-        last_stage l s = change AllArms Free tokens from (at + 1) (λ r zs w. MoreThen OneArm ArmsEnd l r (Key word.Else p ∷ zs) w) (LastBlock l) (λ r zs w stop near m. last_there l r zs w stop near m) (last_back l) (consume AllArms Free tokens from at (MoreThen OneArm ArmsEnd l) (Key word.Else p) is_else s)
+        last_stage l s = change AllArms Free tokens from (at + 1) (λ r zs w. MoreThen OneArm ArmsEnd l r (Key word.Else p ∷ zs) w) (LastBlock l)
+            (λ r zs w stop near m. last_there l r zs w stop near m) (last_back l) (consume AllArms Free tokens from at (MoreThen OneArm ArmsEnd l) (Key word.Else p) is_else s)
 
         pub else_fails : (to : ℕ) → FailsBy Block (Above 0) tokens (at + 1) to → FailsBy AllArms Free tokens from to
         else_fails to x = last_fails AllArms Free tokens from Block (Above 0) (λ b. arm_shapes (map (arm_shaped mid) items) (Some (else_arm p b))) free_above (at + 1) (last_stage (map (arm_shaped mid) items) t.stage) to x
 
-        pub else_tree : (new : List (List ℕ)) → Grows mid new → (b : Read BlockTree) → ReadsOf block_seen Block 0 tokens new (at + 1) next b → (o : Otherwise) → out-Otherwise o ≡ record { keyword = p; body = b.tree } → ReadsOfBy branches_seen AllArms Free tokens new from node (record { tree = record { arms = items; otherwise = Some o }; end = b.end; node = b.node })
+        pub else_tree : (new : List (List ℕ)) → Grows mid new → (b : Read BlockTree) → ReadsOf block_seen Block 0 tokens new (at + 1) next b → (o : Otherwise) →
+            out-Otherwise o ≡ record { keyword = p; body = b.tree } →
+            ReadsOfBy branches_seen AllArms Free tokens new from node (record { tree = record { arms = items; otherwise = Some o }; end = b.end; node = b.node })
         else_tree new g b x o parts =
             let shape : otherwise_shaped new o ≡ else_arm p (block_shape new b.tree) = otherwise_is new o ∙ ap (λ y. else_arm y.keyword (block_shape new y.body)) parts in
             let count : otherwise_count o ≡ block_needs b.tree = otherwise_counts o ∙ ap (λ y. block_needs y.body) parts in
@@ -206,7 +223,10 @@ module _ (tokens : List Lexeme) (size from : ℕ) (h : from ≤ length tokens) w
             let known : block_needs b.tree ≤ length new = x.known in
             let all : most_of arm_count items ≤ length new = walk_known arm_seen OneArm ArmsEnd AllArms Free tokens size arms_grow start mid new from node items at next t g in
             record {
-              reads = subst (λ y. ReadsBy AllArms Free tokens from (arm_shapes (map (arm_shaped new) items) (Some y)) b.end) (sym shape) (last_reads AllArms Free tokens from Block (Above 0) (λ b. arm_shapes (map (arm_shaped new) items) (Some (else_arm p b))) free_above (at + 1) (last_stage (map (arm_shaped new) items) (walk_stage arm_seen OneArm ArmsEnd AllArms Free tokens size arms_grow start mid new from node items at next t g)) b.end (block_shape new b.tree) (by_rank Block 0 tokens (at + 1) (block_shape new b.tree) b.end x.reads));
+              reads = subst (λ y. ReadsBy AllArms Free tokens from (arm_shapes (map (arm_shaped new) items) (Some y)) b.end) (sym shape)
+                  (last_reads AllArms Free tokens from Block (Above 0) (λ b. arm_shapes (map (arm_shaped new) items) (Some (else_arm p b))) free_above (at + 1)
+                  (last_stage (map (arm_shaped new) items) (walk_stage arm_seen OneArm ArmsEnd AllArms Free tokens size arms_grow start mid new from node items at next t g)) b.end
+                  (block_shape new b.tree) (by_rank Block 0 tokens (at + 1) (block_shape new b.tree) b.end x.reads));
               known = omega arith;
               nodes = count_join (joined_of arm_numbers items) (otherwise_numbers o) node next b.node t.nodes (subst (λ l. CountFrom next l b.node) (sym numbers) x.nodes);
             }

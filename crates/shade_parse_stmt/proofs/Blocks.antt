@@ -72,7 +72,9 @@ module _ (tokens : List Lexeme) (from : ℕ) (h : from ≤ length tokens) where
   BodyOf attrs = Marked (Mark sign.OpenBrace) (λ p. After Braced (λ b. Ends (braces (first_place attrs p) attrs (stmt_shapes b.0) b.1)))
 
   body_of_closes : (attrs : List AttrShape) → Closes (BodyOf attrs)
-  body_of_closes attrs = closes_marked (Mark sign.OpenBrace) (λ p. After Braced (λ b. Ends (braces (first_place attrs p) attrs (stmt_shapes b.0) b.1))) (closes_after Braced (λ b. Ends (braces (first_place attrs some_place) attrs (stmt_shapes b.0) b.1)) braced_closes (λ b. closes_end (braces (first_place attrs some_place) attrs (stmt_shapes b.0) b.1)))
+  body_of_closes attrs = closes_marked (Mark sign.OpenBrace) (λ p. After Braced (λ b. Ends (braces (first_place attrs p) attrs (stmt_shapes b.0) b.1)))
+      (closes_after Braced (λ b. Ends (braces (first_place attrs some_place) attrs (stmt_shapes b.0) b.1)) braced_closes
+      (λ b. closes_end (braces (first_place attrs some_place) attrs (stmt_shapes b.0) b.1)))
 
   block_stage : Step Block (Above 0) tokens from from BlockRest
   block_stage = change Block (Above 0) tokens from from Block BlockRest (λ r ys w stop near g. block_there r ys w g) block_back (begin Block (Above 0) tokens from h)
@@ -91,7 +93,10 @@ module _ (tokens : List Lexeme) (from : ℕ) (h : from ≤ length tokens) where
     body_of_stage = phrase Block (Above 0) tokens from (Many Attribute) (Above 8) BodyOf body_of_stops from a.end (attr_shapes names a.tree) block_stage attrs_read.reads
 
     pub block_open : ((p : Place) → slice_get tokens a.end ≡ Some (Mark sign.OpenBrace p) → ⊥) → FailsBy Block (Above 0) tokens from a.end
-    block_open never = stuck_mark Block (Above 0) tokens from (Mark sign.OpenBrace) (λ p. After Braced (λ b. Ends (braces (first_place (attr_shapes names a.tree) p) (attr_shapes names a.tree) (stmt_shapes b.0) b.1))) (closes_after Braced (λ b. Ends (braces (first_place (attr_shapes names a.tree) some_place) (attr_shapes names a.tree) (stmt_shapes b.0) b.1)) braced_closes (λ b. closes_end (braces (first_place (attr_shapes names a.tree) some_place) (attr_shapes names a.tree) (stmt_shapes b.0) b.1))) a.end never body_of_stage
+    block_open never = stuck_mark Block (Above 0) tokens from (Mark sign.OpenBrace)
+        (λ p. After Braced (λ b. Ends (braces (first_place (attr_shapes names a.tree) p) (attr_shapes names a.tree) (stmt_shapes b.0) b.1)))
+        (closes_after Braced (λ b. Ends (braces (first_place (attr_shapes names a.tree) some_place) (attr_shapes names a.tree) (stmt_shapes b.0) b.1)) braced_closes
+        (λ b. closes_end (braces (first_place (attr_shapes names a.tree) some_place) (attr_shapes names a.tree) (stmt_shapes b.0) b.1))) a.end never body_of_stage
 
     module _ (p : Place) (is : slice_get tokens a.end ≡ Some (Mark sign.OpenBrace p)) where
       inside : Step Block (Above 0) tokens from (a.end + 1) (After Braced (λ b. Ends (braces (first_place (attr_shapes names a.tree) p) (attr_shapes names a.tree) (stmt_shapes b.0) b.1)))
@@ -103,15 +108,23 @@ module _ (tokens : List Lexeme) (from : ℕ) (h : from ≤ length tokens) where
       block_reads : (b : List StmtShape × Place) (to : ℕ) → ReadsBy Braced Anything tokens (a.end + 1) b to → ReadsBy Block (Above 0) tokens from (braces (first_place (attr_shapes names a.tree) p) (attr_shapes names a.tree) (stmt_shapes b.0) b.1) to
       block_reads b to y = last_reads Block (Above 0) tokens from Braced Anything (λ b. braces (first_place (attr_shapes names a.tree) p) (attr_shapes names a.tree) (stmt_shapes b.0) b.1) (λ w k. tt) (a.end + 1) inside to b y
 
-  pub block_tree : (mid new : List (List ℕ)) (node : ℕ) (a : Read (List Attr)) → ReadsOf attrs_seen (Many Attribute) 8 tokens mid from node a → (p : Place) → slice_get tokens a.end ≡ Some (Mark sign.OpenBrace p) → Grows mid new → (b : Read Body) → ReadsOfBy body_seen Braced Anything tokens new (a.end + 1) a.node b → (r : Read BlockTree) → out-Block r.tree ≡ record { node = b.node; place = first_of a.tree p; attrs = a.tree; body = b.tree.statements; end = b.tree.end } → r.end ≡ b.end → r.node ≡ b.node + 1 → ReadsOf block_seen Block 0 tokens new from node r
+  pub block_tree : (mid new : List (List ℕ)) (node : ℕ) (a : Read (List Attr)) → ReadsOf attrs_seen (Many Attribute) 8 tokens mid from node a → (p : Place) →
+      slice_get tokens a.end ≡ Some (Mark sign.OpenBrace p) → Grows mid new → (b : Read Body) → ReadsOfBy body_seen Braced Anything tokens new (a.end + 1) a.node b → (r : Read BlockTree) →
+      out-Block r.tree ≡ record { node = b.node; place = first_of a.tree p; attrs = a.tree; body = b.tree.statements; end = b.tree.end } → r.end ≡ b.end → r.node ≡ b.node + 1 →
+      ReadsOf block_seen Block 0 tokens new from node r
   block_tree mid new node a x p is g b y r parts end next =
       let later : ReadsOfBy attrs_seen (Many Attribute) (Above 8) tokens new from node a = grown attrs_seen attrs_steady (Many Attribute) (Above 8) tokens mid new from node a g (ranked_read attrs_seen (Many Attribute) 8 tokens mid from node a x) in
       let back : ReadsOf attrs_seen (Many Attribute) 8 tokens new from node a = record { reads = to_rank (Many Attribute) 8 tokens from (attr_shapes new a.tree) a.end later.reads; known = later.known; nodes = later.nodes } in
       let needs : block_needs r.tree ≡ max (attrs_need a.tree) (most_of stmt_needs b.tree.statements) = block_needs_as r.tree a.tree p b.tree.statements b.tree.end b.node parts in
       record {
-        reads = to_rank Block 0 tokens from (block_shape new r.tree) r.end (subst (ReadsBy Block (Above 0) tokens from (block_shape new r.tree)) (sym end) (subst (λ s. ReadsBy Block (Above 0) tokens from s b.end) (sym (block_shaped_as r.tree a.tree p b.tree.statements b.tree.end b.node parts new)) (block_reads new node a back p is (body_seen.shape new b.tree) b.end y.reads)));
+        reads = to_rank Block 0 tokens from (block_shape new r.tree) r.end
+            (subst (ReadsBy Block (Above 0) tokens from (block_shape new r.tree)) (sym end)
+            (subst (λ s. ReadsBy Block (Above 0) tokens from s b.end) (sym (block_shaped_as r.tree a.tree p b.tree.statements b.tree.end b.node parts new))
+            (block_reads new node a back p is (body_seen.shape new b.tree) b.end y.reads)));
         known = (let k : attrs_need a.tree ≤ length new = later.known in let l : most_of stmt_needs b.tree.statements ≤ length new = y.known in omega arith);
-        nodes = subst (CountFrom node (block_nodes r.tree)) (sym next) (subst (λ l. CountFrom node l (b.node + 1)) (sym (block_nodes_as r.tree a.tree p b.tree.statements b.tree.end b.node parts)) (attributed_count (attrs_nodes a.tree) (joined_of stmt_nodes b.tree.statements) node a.node b.node later.nodes y.nodes));
+        nodes = subst (CountFrom node (block_nodes r.tree)) (sym next)
+            (subst (λ l. CountFrom node l (b.node + 1)) (sym (block_nodes_as r.tree a.tree p b.tree.statements b.tree.end b.node parts))
+            (attributed_count (attrs_nodes a.tree) (joined_of stmt_nodes b.tree.statements) node a.node b.node later.nodes y.nodes));
       }
 
   -- a condition and a block
@@ -130,7 +143,9 @@ module _ (tokens : List Lexeme) (from : ℕ) (h : from ≤ length tokens) where
   pub guard_body_fails : (names : List (List ℕ)) (node : ℕ) (e : Part) → ReadsTree Expression 7 tokens names [] from node e → (to : ℕ) → FailsBy Block (Above 0) tokens e.end to → FailsBy Guards (Above 0) tokens from to
   guard_body_fails names node e x to y = last_fails Guards (Above 0) tokens from Block (Above 0) (λ b. (expr_shape names e.expr, b)) (λ w k. k) e.end (guard_stage (expr_shape names e.expr) e.end (expr_read Expression 7 tokens names from node e x).reads) to y
 
-  pub guard_tree : (mid new : List (List ℕ)) (node : ℕ) (e : Part) → ReadsTree Expression 7 tokens mid [] from node e → Grows mid new → (b : Read BlockTree) → ReadsOf block_seen Block 0 tokens new e.end e.node b → ReadsOfBy guarded_seen Guards (Above 0) tokens new from node (record { tree = record { condition = e.expr; body = b.tree }; end = b.end; node = b.node })
+  pub guard_tree : (mid new : List (List ℕ)) (node : ℕ) (e : Part) → ReadsTree Expression 7 tokens mid [] from node e → Grows mid new → (b : Read BlockTree) →
+      ReadsOf block_seen Block 0 tokens new e.end e.node b →
+      ReadsOfBy guarded_seen Guards (Above 0) tokens new from node (record { tree = record { condition = e.expr; body = b.tree }; end = b.end; node = b.node })
   guard_tree mid new node e x g b y =
       let later : ReadsOfBy expr_seen Expression (Above 7) tokens new from node (as_read e) = grown expr_seen expr_steady Expression (Above 7) tokens mid new from node (as_read e) g (expr_read Expression 7 tokens mid from node e x) in
       record {

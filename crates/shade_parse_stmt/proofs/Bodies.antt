@@ -148,7 +148,10 @@ module _ {T S R : Type 0} (seen : Seen T S) (B : S → List Lexeme → List Lexe
     walk_known = known_on (most_of seen.needs items) mid new g t.known
 
     -- one part more
-    pub walk_more : (H : List Lexeme → Type 0) → ((b : S) (ts w : List Lexeme) → B b ts w → H ts) → ((l : List S) (r : R) (ts w : List Lexeme) → F w → K l r ts w → H ts) → (item : T) (es : List T) → es ≡ items ++ item ∷ [] → (to last : ℕ) → (p : ReadsBy B H tokens at (seen.shape new item) to) → seen.needs item ≤ length new → CountFrom next (seen.nodes item) last → ((r : R) (ys w : List Lexeme) → F w → K (map (seen.shape new) items) r (p.us ++ ys) w → Near ys (drop to tokens) → ⊥) → to ≤ size → last + at ≤ next + to → length new + at ≤ length mid + to → Walk seen B K G F tokens size start new from node es to last
+    pub walk_more : (H : List Lexeme → Type 0) → ((b : S) (ts w : List Lexeme) → B b ts w → H ts) → ((l : List S) (r : R) (ts w : List Lexeme) → F w → K l r ts w → H ts) →
+        (item : T) (es : List T) → es ≡ items ++ item ∷ [] → (to last : ℕ) → (p : ReadsBy B H tokens at (seen.shape new item) to) → seen.needs item ≤ length new →
+        CountFrom next (seen.nodes item) last → ((r : R) (ys w : List Lexeme) → F w → K (map (seen.shape new) items) r (p.us ++ ys) w → Near ys (drop to tokens) → ⊥) → to ≤ size →
+        last + at ≤ next + to → length new + at ≤ length mid + to → Walk seen B K G F tokens size start new from node es to last
     walk_more H first last_stops item es is to last p known nodes never within numbered few =
         let low : at ≤ to = p.low in
         let past : from ≤ at = t.past in

@@ -55,8 +55,15 @@ module _ (tokens : List Lexeme) (from : ℕ) (h : from ≤ length tokens) where
   pub colon_fails : (p : Place) → slice_get tokens from ≡ Some (Mark sign.Colon p) → (to : ℕ) → FailsBy Block (Above 0) tokens (from + 1) to → FailsBy ColonBlock (Above 0) tokens from to
   colon_fails p is to x = last_fails ColonBlock (Above 0) tokens from Block (Above 0) (λ b. (true, b)) (λ w k. k) (from + 1) (colon_stage p is) to x
 
-  pub colon_tree : (names : List (List ℕ)) (node : ℕ) (p : Place) → slice_get tokens from ≡ Some (Mark sign.Colon p) → (b : Read BlockTree) → ReadsOf block_seen Block 0 tokens names (from + 1) node b → ReadsOfBy clause_body_seen ColonBlock (Above 0) tokens names from node (record { tree = record { colon = true; body = b.tree }; end = b.end; node = b.node })
-  colon_tree names node p is b x = record { reads = last_reads ColonBlock (Above 0) tokens from Block (Above 0) (λ b. (true, b)) (λ w k. k) (from + 1) (colon_stage p is) b.end (block_shape names b.tree) (by_rank Block 0 tokens (from + 1) (block_shape names b.tree) b.end x.reads); known = x.known; nodes = x.nodes }
+  pub colon_tree : (names : List (List ℕ)) (node : ℕ) (p : Place) → slice_get tokens from ≡ Some (Mark sign.Colon p) → (b : Read BlockTree) →
+      ReadsOf block_seen Block 0 tokens names (from + 1) node b →
+      ReadsOfBy clause_body_seen ColonBlock (Above 0) tokens names from node (record { tree = record { colon = true; body = b.tree }; end = b.end; node = b.node })
+  colon_tree names node p is b x = record {
+    reads = last_reads ColonBlock (Above 0) tokens from Block (Above 0) (λ b. (true, b)) (λ w k. k) (from + 1) (colon_stage p is) b.end (block_shape names b.tree)
+        (by_rank Block 0 tokens (from + 1) (block_shape names b.tree) b.end x.reads);
+    known = x.known;
+    nodes = x.nodes;
+  }
 
   module _ (never : (p : Place) → slice_get tokens from ≡ Some (Mark sign.Colon p) → ⊥) where
     bare_there : (r : Bool × BlockShape) (ys w : List Lexeme) → Near ys (drop from tokens) → ColonBlock r ys w → After Block (λ b. Ends (false, b)) r ys w
@@ -116,13 +123,16 @@ module _ (tokens : List Lexeme) (from : ℕ) (h : from ≤ length tokens) where
     pub default_fails : (to : ℕ) → FailsBy ColonBlock (Above 0) tokens (from + 1) to → FailsBy OneClause (Above 0) tokens from to
     default_fails to x = last_fails OneClause (Above 0) tokens from ColonBlock (Above 0) (λ b. default_clause p b.0 b.1) (λ w k. k) (from + 1) default_stage to x
 
-    pub default_tree : (names : List (List ℕ)) (node : ℕ) (b : Read ClauseBody) → ReadsOfBy clause_body_seen ColonBlock (Above 0) tokens names (from + 1) node b → (c : Clause) → c ≡ clause.Default p b.tree.colon b.tree.body → ReadsOfBy clause_seen OneClause (Above 0) tokens names from node (record { tree = c; end = b.end; node = b.node })
+    pub default_tree : (names : List (List ℕ)) (node : ℕ) (b : Read ClauseBody) → ReadsOfBy clause_body_seen ColonBlock (Above 0) tokens names (from + 1) node b → (c : Clause) →
+        c ≡ clause.Default p b.tree.colon b.tree.body → ReadsOfBy clause_seen OneClause (Above 0) tokens names from node (record { tree = c; end = b.end; node = b.node })
     default_tree names node b x c same =
         subst (λ y. ReadsOfBy clause_seen OneClause (Above 0) tokens names from node (record { tree = y; end = b.end; node = b.node })) (sym same)
         (let count : clause_count (clause.Default p b.tree.colon b.tree.body) ≡ block_needs b.tree.body = needs-Default p b.tree.colon b.tree.body in
         let known : block_needs b.tree.body ≤ length names = x.known in
         record {
-          reads = subst (λ s. ReadsBy OneClause (Above 0) tokens from s b.end) (sym (shape-Default names p b.tree.colon b.tree.body)) (last_reads OneClause (Above 0) tokens from ColonBlock (Above 0) (λ b. default_clause p b.0 b.1) (λ w k. k) (from + 1) default_stage b.end (b.tree.colon, block_shape names b.tree.body) x.reads);
+          reads = subst (λ s. ReadsBy OneClause (Above 0) tokens from s b.end) (sym (shape-Default names p b.tree.colon b.tree.body))
+              (last_reads OneClause (Above 0) tokens from ColonBlock (Above 0) (λ b. default_clause p b.0 b.1) (λ w k. k) (from + 1) default_stage b.end
+              (b.tree.colon, block_shape names b.tree.body) x.reads);
           known = omega arith;
           nodes = subst (λ l. CountFrom node l b.node) (sym (nodes-Default p b.tree.colon b.tree.body)) x.nodes;
         })
@@ -143,7 +153,10 @@ module _ (tokens : List Lexeme) (from : ℕ) (h : from ≤ length tokens) where
     pub case_body_fails : (names : List (List ℕ)) (node : ℕ) (l : Read Selectors) → ReadsOfBy selectors_seen (Listed Selects) Selected tokens names (from + 1) node l → (to : ℕ) → FailsBy ColonBlock (Above 0) tokens l.end to → FailsBy OneClause (Above 0) tokens from to
     case_body_fails names node l x to y = last_fails OneClause (Above 0) tokens from ColonBlock (Above 0) (λ b. case_clause p (map (selector_shape names) l.tree.items) l.tree.trailing b.0 b.1) (λ w k. k) l.end (case_rest (selectors_seen.shape names l.tree) l.end x.reads) to y
 
-    pub case_tree : (mid new : List (List ℕ)) (node : ℕ) (l : Read Selectors) → ReadsOfBy selectors_seen (Listed Selects) Selected tokens mid (from + 1) node l → Grows mid new → (b : Read ClauseBody) → ReadsOfBy clause_body_seen ColonBlock (Above 0) tokens new l.end l.node b → (c : Clause) → c ≡ clause.Case p l.tree.items l.tree.trailing b.tree.colon b.tree.body → ReadsOfBy clause_seen OneClause (Above 0) tokens new from node (record { tree = c; end = b.end; node = b.node })
+    pub case_tree : (mid new : List (List ℕ)) (node : ℕ) (l : Read Selectors) → ReadsOfBy selectors_seen (Listed Selects) Selected tokens mid (from + 1) node l → Grows mid new →
+        (b : Read ClauseBody) → ReadsOfBy clause_body_seen ColonBlock (Above 0) tokens new l.end l.node b → (c : Clause) →
+        c ≡ clause.Case p l.tree.items l.tree.trailing b.tree.colon b.tree.body →
+        ReadsOfBy clause_seen OneClause (Above 0) tokens new from node (record { tree = c; end = b.end; node = b.node })
     case_tree mid new node l x g b y c same =
         let later : ReadsOfBy selectors_seen (Listed Selects) Selected tokens new (from + 1) node l = grown selectors_seen selectors_steady (Listed Selects) Selected tokens mid new (from + 1) node l g x in
         let need_l : most_of selector_needs l.tree.items ≤ length new = later.known in
@@ -151,7 +164,9 @@ module _ (tokens : List Lexeme) (from : ℕ) (h : from ≤ length tokens) where
         let count : clause_count (clause.Case p l.tree.items l.tree.trailing b.tree.colon b.tree.body) ≡ max (most_of selector_needs l.tree.items) (block_needs b.tree.body) = needs-Case p l.tree.items l.tree.trailing b.tree.colon b.tree.body in
         subst (λ y. ReadsOfBy clause_seen OneClause (Above 0) tokens new from node (record { tree = y; end = b.end; node = b.node })) (sym same)
         (record {
-          reads = subst (λ s. ReadsBy OneClause (Above 0) tokens from s b.end) (sym (shape-Case new p l.tree.items l.tree.trailing b.tree.colon b.tree.body)) (last_reads OneClause (Above 0) tokens from ColonBlock (Above 0) (λ b. case_clause p (map (selector_shape new) l.tree.items) l.tree.trailing b.0 b.1) (λ w k. k) l.end (case_rest (selectors_seen.shape new l.tree) l.end later.reads) b.end (b.tree.colon, block_shape new b.tree.body) y.reads);
+          reads = subst (λ s. ReadsBy OneClause (Above 0) tokens from s b.end) (sym (shape-Case new p l.tree.items l.tree.trailing b.tree.colon b.tree.body))
+              (last_reads OneClause (Above 0) tokens from ColonBlock (Above 0) (λ b. case_clause p (map (selector_shape new) l.tree.items) l.tree.trailing b.0 b.1) (λ w k. k) l.end
+              (case_rest (selectors_seen.shape new l.tree) l.end later.reads) b.end (b.tree.colon, block_shape new b.tree.body) y.reads);
           known = omega arith;
           nodes = subst (λ n. CountFrom node n b.node) (sym (nodes-Case p l.tree.items l.tree.trailing b.tree.colon b.tree.body)) (count_join (joined_of selector_nodes l.tree.items) (block_nodes b.tree.body) node l.node b.node later.nodes y.nodes);
         })

@@ -110,5 +110,6 @@ module _ {S : Type 0} (closer : Place → Lexeme) (is_place : (p : Place) → le
     pub none_tree : (p : Place) → slice_get tokens from ≡ Some (closer p) → ReadsOfBy (maybe_seen seen) Here F tokens names from node (record { tree = None; end = from + 1; node = node })
     none_tree p is = record { reads = until_none p is; known = omega arith; nodes = refl }
 
-    pub some_tree : ((p : Place) → slice_get tokens from ≡ Some (closer p) → ⊥) → (r : Read T) → ReadsOfBy seen B H tokens names from node r → (p : Place) → slice_get tokens r.end ≡ Some (closer p) → ReadsOfBy (maybe_seen seen) Here F tokens names from node (record { tree = Some r.tree; end = r.end + 1; node = r.node })
+    pub some_tree : ((p : Place) → slice_get tokens from ≡ Some (closer p) → ⊥) → (r : Read T) → ReadsOfBy seen B H tokens names from node r → (p : Place) →
+        slice_get tokens r.end ≡ Some (closer p) → ReadsOfBy (maybe_seen seen) Here F tokens names from node (record { tree = Some r.tree; end = r.end + 1; node = r.node })
     some_tree never r x p is = record { reads = until_some never r.end (seen.shape names r.tree) x.reads p is; known = x.known; nodes = x.nodes }

@@ -146,7 +146,9 @@ Heads attrs = Headed (CompoundAt attrs)
 
 heads_closes : (attrs : List AttrShape) → Closes (Heads attrs)
 heads_closes attrs =
-    let c : Closes (CompoundAt attrs (Mark sign.OpenBrace some_place)) = closes_after Braced (λ b. Ends (block_stmt (first_place attrs some_place) (braces (first_place attrs some_place) attrs (stmt_shapes b.0) b.1))) braced_closes (λ b. closes_end (block_stmt (first_place attrs some_place) (braces (first_place attrs some_place) attrs (stmt_shapes b.0) b.1))) in
+    let c : Closes (CompoundAt attrs (Mark sign.OpenBrace some_place)) = closes_after Braced
+    (λ b. Ends (block_stmt (first_place attrs some_place) (braces (first_place attrs some_place) attrs (stmt_shapes b.0) b.1))) braced_closes
+    (λ b. closes_end (block_stmt (first_place attrs some_place) (braces (first_place attrs some_place) attrs (stmt_shapes b.0) b.1))) in
     record { tree = c.tree; more = Mark sign.OpenBrace some_place ∷ c.more; closed = λ w. record { first = Mark sign.OpenBrace some_place; others = c.more ++ w; split = refl; at = c.closed w } }
 
 heads_stops : (attrs : List AttrShape) (r : StmtShape) (zs w : List Lexeme) → Free w → Heads attrs r zs w → Above 8 zs
@@ -160,7 +162,9 @@ module _ (tokens : List Lexeme) (from : ℕ) (h : from ≤ length tokens) where
     heads_stage : Step Compound Free tokens from a.end (Heads (attr_shapes names a.tree))
     heads_stage = phrase Compound Free tokens from (Many Attribute) (Above 8) Heads heads_stops from a.end (attr_shapes names a.tree) (begin Compound Free tokens from h) (ranked_read attrs_seen (Many Attribute) 8 tokens names from node a x).reads
 
-    pub compound_stuck : ((p : Place) → slice_get tokens a.end ≡ Some (Mark sign.OpenBrace p) → ⊥) → ((p : Place) → slice_get tokens a.end ≡ Some (Key word.If p) → ⊥) → ((p : Place) → slice_get tokens a.end ≡ Some (Key word.Switch p) → ⊥) → ((p : Place) → slice_get tokens a.end ≡ Some (Key word.Loop p) → ⊥) → ((p : Place) → slice_get tokens a.end ≡ Some (Key word.For p) → ⊥) → ((p : Place) → slice_get tokens a.end ≡ Some (Key word.While p) → ⊥) → FailsBy Compound Free tokens from a.end
+    pub compound_stuck : ((p : Place) → slice_get tokens a.end ≡ Some (Mark sign.OpenBrace p) → ⊥) → ((p : Place) → slice_get tokens a.end ≡ Some (Key word.If p) → ⊥) →
+        ((p : Place) → slice_get tokens a.end ≡ Some (Key word.Switch p) → ⊥) → ((p : Place) → slice_get tokens a.end ≡ Some (Key word.Loop p) → ⊥) →
+        ((p : Place) → slice_get tokens a.end ≡ Some (Key word.For p) → ⊥) → ((p : Place) → slice_get tokens a.end ≡ Some (Key word.While p) → ⊥) → FailsBy Compound Free tokens from a.end
     compound_stuck no_brace no_if no_switch no_loop no_for no_while =
         stuck Compound Free tokens from a.end (Heads (attr_shapes names a.tree)) (heads_closes (attr_shapes names a.tree))
         (λ r ys w stop k near. by k.first r k.others w (near_get tokens a.end k.first k.others (subst (λ y. Near y (drop a.end tokens)) k.split near)) k.at)
@@ -192,7 +196,12 @@ module _ (tokens : List Lexeme) (from : ℕ) (h : from ≤ length tokens) where
     pub one_fails : (names : List (List ℕ)) (node : ℕ) (a : Read (List Attr)) → ReadsOf attrs_seen (Many Attribute) 8 tokens names from node a → slice_get tokens a.end ≡ Some token → (to : ℕ) → FailsBy B H tokens (a.end + 1) to → FailsBy Compound Free tokens from to
     one_fails names node a x is to y = last_fails Compound Free tokens from B H (f (attr_shapes names a.tree)) follows (a.end + 1) (one_stage names node a x is) to y
 
-    pub one_tree : (k : StmtKind) (place : Place) (mid new : List (List ℕ)) (node : ℕ) (a : Read (List Attr)) → ReadsOf attrs_seen (Many Attribute) 8 tokens mid from node a → slice_get tokens a.end ≡ Some token → Grows mid new → (b : Read T) → ReadsOfBy seen B H tokens new (a.end + 1) a.node b → (needs : ℕ) (nodes : List ℕ) (last : ℕ) → stmt_kind_shaped new k place ≡ f (attr_shapes new a.tree) (seen.shape new b.tree) → stmt_kind_count k ≡ needs → (attrs_need a.tree ≤ length new → seen.needs b.tree ≤ length new → needs ≤ length new) → stmt_kind_numbers k ≡ nodes → (CountFrom node (attrs_nodes a.tree) a.node → CountFrom a.node (seen.nodes b.tree) b.node → CountFrom node nodes last) → (s : Read Stmt) → s ≡ record { tree = record { node = last; place = place; kind = k }; end = b.end; node = last + 1 } → ReadsOfBy stmt_seen Compound Free tokens new from node s
+    pub one_tree : (k : StmtKind) (place : Place) (mid new : List (List ℕ)) (node : ℕ) (a : Read (List Attr)) → ReadsOf attrs_seen (Many Attribute) 8 tokens mid from node a →
+        slice_get tokens a.end ≡ Some token → Grows mid new → (b : Read T) → ReadsOfBy seen B H tokens new (a.end + 1) a.node b → (needs : ℕ) (nodes : List ℕ) (last : ℕ) →
+        stmt_kind_shaped new k place ≡ f (attr_shapes new a.tree) (seen.shape new b.tree) → stmt_kind_count k ≡ needs →
+        (attrs_need a.tree ≤ length new → seen.needs b.tree ≤ length new → needs ≤ length new) → stmt_kind_numbers k ≡ nodes →
+        (CountFrom node (attrs_nodes a.tree) a.node → CountFrom a.node (seen.nodes b.tree) b.node → CountFrom node nodes last) → (s : Read Stmt) →
+        s ≡ record { tree = record { node = last; place = place; kind = k }; end = b.end; node = last + 1 } → ReadsOfBy stmt_seen Compound Free tokens new from node s
     one_tree k place mid new node a x is g b y needs nodes last shaped count known numbers counted s same_tree =
         let later : ReadsOf attrs_seen (Many Attribute) 8 tokens new from node a = attrs_later mid new node a g x in
         subst (ReadsOfBy stmt_seen Compound Free tokens new from node) (sym same_tree)

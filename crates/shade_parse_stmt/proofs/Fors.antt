@@ -82,10 +82,16 @@ module _ (tokens : List Lexeme) (from : ℕ) (h : from ≤ length tokens) where
     pub condition_fails : (names : List (List ℕ)) (node : ℕ) (i : Read (Option Simple)) → ReadsOfBy maybe_simple_seen UntilSimple Anything tokens names (from + 1) node i → (to : ℕ) → FailsBy UntilValue Anything tokens i.end to → FailsBy ForHead Anything tokens from to
     condition_fails names node i x to y = condition_fails_at (maybe_simple_seen.shape names i.tree) i.end x.reads to y
 
-    pub update_fails : (mid new : List (List ℕ)) (node : ℕ) (i : Read (Option Simple)) → ReadsOfBy maybe_simple_seen UntilSimple Anything tokens mid (from + 1) node i → Grows mid new → (c : Read (Option Expr)) → ReadsOfBy value_seen UntilValue Anything tokens new i.end i.node c → (to : ℕ) → FailsBy UntilUpdate Anything tokens c.end to → FailsBy ForHead Anything tokens from to
+    pub update_fails : (mid new : List (List ℕ)) (node : ℕ) (i : Read (Option Simple)) → ReadsOfBy maybe_simple_seen UntilSimple Anything tokens mid (from + 1) node i → Grows mid new →
+        (c : Read (Option Expr)) → ReadsOfBy value_seen UntilValue Anything tokens new i.end i.node c → (to : ℕ) → FailsBy UntilUpdate Anything tokens c.end to →
+        FailsBy ForHead Anything tokens from to
     update_fails mid new node i x g c y to z = update_fails_at (maybe_simple_seen.shape mid i.tree) i.end x.reads (value_seen.shape new c.tree) c.end y.reads to z
 
-    pub for_head_tree : (first mid new : List (List ℕ)) (node : ℕ) (i : Read (Option Simple)) → ReadsOfBy maybe_simple_seen UntilSimple Anything tokens first (from + 1) node i → Grows first mid → (c : Read (Option Expr)) → ReadsOfBy value_seen UntilValue Anything tokens mid i.end i.node c → Grows mid new → (u : Read (Option Update)) → ReadsOfBy maybe_update_seen UntilUpdate Anything tokens new c.end c.node u → (initial : Option Simple) → initial ≡ i.tree → (parts : Option Simple × Option Expr) → parts ≡ (initial, c.tree) → ReadsOfBy for_head_seen ForHead Anything tokens new from node (record { tree = record { initial = parts.0; condition = parts.1; update = u.tree }; end = u.end; node = u.node })
+    pub for_head_tree : (first mid new : List (List ℕ)) (node : ℕ) (i : Read (Option Simple)) → ReadsOfBy maybe_simple_seen UntilSimple Anything tokens first (from + 1) node i →
+        Grows first mid → (c : Read (Option Expr)) → ReadsOfBy value_seen UntilValue Anything tokens mid i.end i.node c → Grows mid new → (u : Read (Option Update)) →
+        ReadsOfBy maybe_update_seen UntilUpdate Anything tokens new c.end c.node u → (initial : Option Simple) → initial ≡ i.tree → (parts : Option Simple × Option Expr) →
+        parts ≡ (initial, c.tree) →
+        ReadsOfBy for_head_seen ForHead Anything tokens new from node (record { tree = record { initial = parts.0; condition = parts.1; update = u.tree }; end = u.end; node = u.node })
     for_head_tree first mid new node i x g c y k u z initial is_initial parts is_parts =
         let i_mid : ReadsOfBy maybe_simple_seen UntilSimple Anything tokens mid (from + 1) node i = grown maybe_simple_seen maybe_simple_steady UntilSimple Anything tokens first mid (from + 1) node i g x in
         let i_new : ReadsOfBy maybe_simple_seen UntilSimple Anything tokens new (from + 1) node i = grown maybe_simple_seen maybe_simple_steady UntilSimple Anything tokens mid new (from + 1) node i k i_mid in
@@ -117,14 +123,17 @@ module _ (tokens : List Lexeme) (from : ℕ) (h : from ≤ length tokens) where
   for_head_steady : Steady for_head_seen
   for_head_steady old new t n g = λ i. record { initial = maybe_simple_steady old new t.initial (omega arith) g i; condition = value_steady old new t.condition (omega arith) g i; update = maybe_update_steady old new t.update (omega arith) g i }
 
-  pub for_rest_tree : (mid new : List (List ℕ)) (node : ℕ) (t : Read ForHeader) → ReadsOfBy for_head_seen ForHead Anything tokens mid from node t → Grows mid new → (b : Read BlockTree) → ReadsOf block_seen Block 0 tokens new t.end t.node b → (first : Read ForHeader) → first ≡ t → ReadsOfBy for_seen ForRest (Above 0) tokens new from node (record { tree = record { head = first.tree; body = b.tree }; end = b.end; node = b.node })
+  pub for_rest_tree : (mid new : List (List ℕ)) (node : ℕ) (t : Read ForHeader) → ReadsOfBy for_head_seen ForHead Anything tokens mid from node t → Grows mid new → (b : Read BlockTree) →
+      ReadsOf block_seen Block 0 tokens new t.end t.node b → (first : Read ForHeader) → first ≡ t →
+      ReadsOfBy for_seen ForRest (Above 0) tokens new from node (record { tree = record { head = first.tree; body = b.tree }; end = b.end; node = b.node })
   for_rest_tree mid new node t x g b y first same =
       let t_new : ReadsOfBy for_head_seen ForHead Anything tokens new from node t = grown for_head_seen for_head_steady ForHead Anything tokens mid new from node t g x in
       let need_t : for_head_seen.needs t.tree ≤ length new = t_new.known in
       let need_b : block_needs b.tree ≤ length new = y.known in
       subst (λ v. ReadsOfBy for_seen ForRest (Above 0) tokens new from node (record { tree = record { head = v.tree; body = b.tree }; end = b.end; node = b.node })) (sym same)
       (record {
-        reads = last_reads ForRest (Above 0) tokens from Block (Above 0) (λ b. record { head = for_head_seen.shape new t.tree; body = b }) (λ w k. k) t.end (body_stage (for_head_seen.shape new t.tree) t.end t_new.reads) b.end (block_shape new b.tree) (by_rank Block 0 tokens t.end (block_shape new b.tree) b.end y.reads);
+        reads = last_reads ForRest (Above 0) tokens from Block (Above 0) (λ b. record { head = for_head_seen.shape new t.tree; body = b }) (λ w k. k) t.end
+            (body_stage (for_head_seen.shape new t.tree) t.end t_new.reads) b.end (block_shape new b.tree) (by_rank Block 0 tokens t.end (block_shape new b.tree) b.end y.reads);
         known = omega arith;
         nodes = count_join (for_head_seen.nodes t.tree) (block_nodes b.tree) node t.node b.node t_new.nodes y.nodes;
       })

@@ -36,14 +36,17 @@ Steady {T = T} seen = (old new : List (List ℕ)) (t : T) → seen.needs t ≤ l
 pub known_on : (n : ℕ) (old new : List (List ℕ)) → Grows old new → n ≤ length old → n ≤ length new
 known_on n old new g h = let le : length old ≤ length new = length_grows old new g in omega arith
 
-pub grown : {T R : Type 0} (seen : Seen T R) → Steady seen → (G : R → List Lexeme → List Lexeme → Type 0) (F : List Lexeme → Type 0) (tokens : List Lexeme) (old new : List (List ℕ)) (from node : ℕ) (r : Read T) → Grows old new → ReadsOfBy seen G F tokens old from node r → ReadsOfBy seen G F tokens new from node r
+pub grown : {T R : Type 0} (seen : Seen T R) → Steady seen →
+    (G : R → List Lexeme → List Lexeme → Type 0) (F : List Lexeme → Type 0) (tokens : List Lexeme) (old new : List (List ℕ)) (from node : ℕ) (r : Read T) → Grows old new →
+    ReadsOfBy seen G F tokens old from node r → ReadsOfBy seen G F tokens new from node r
 grown seen steady G F tokens old new from node r g x = record {
   reads = subst (λ s. ReadsBy G F tokens from s r.end) (sym (steady old new r.tree x.known g)) x.reads;
   known = known_on (seen.needs r.tree) old new g x.known;
   nodes = x.nodes;
 }
 
-maybe_grows : {A B : Type 0} (needs : A → ℕ) (shape : List (List ℕ) → A → B) → ((old new : List (List ℕ)) (a : A) → needs a ≤ length old → Grows old new → shape new a ≡ shape old a) → (old new : List (List ℕ)) (o : Option A) → maybe_of needs o ≤ length old → Grows old new → option_map (shape new) o ≡ option_map (shape old) o
+maybe_grows : {A B : Type 0} (needs : A → ℕ) (shape : List (List ℕ) → A → B) → ((old new : List (List ℕ)) (a : A) → needs a ≤ length old → Grows old new → shape new a ≡ shape old a) →
+    (old new : List (List ℕ)) (o : Option A) → maybe_of needs o ≤ length old → Grows old new → option_map (shape new) o ≡ option_map (shape old) o
 maybe_grows needs shape grows old new None h g = refl
 maybe_grows needs shape grows old new (Some a) h g = ap Some (grows old new a h g)
 
@@ -96,11 +99,22 @@ arm_grows old new a h g =
 pub arms_grow : (old new : List (List ℕ)) (l : List Arm) → most_of arm_count l ≤ length old → Grows old new → map (arm_shaped new) l ≡ map (arm_shaped old) l
 arms_grow = list_grows arm_count arm_shaped arm_grows
 
-clause_layer : (names : List (List ℕ)) (c : Clause) (y : Clause-F Clause StmtKind Arm Block Continuing Otherwise Stmt) → out-Clause c ≡ y → clause_shaped names c ≡ clause_step names (map-Clause Clause StmtKind Arm Block Continuing Otherwise Stmt (ClauseShapes → ClauseShapes) (Place → StmtShape) (ArmShapes → ArmShapes) BlockShape ContinuingShape ArmShapes StmtShape (clause_shaped names) (stmt_kind_shaped names) (arm_shaped names) (block_shaped names) (continuing_shaped names) (otherwise_shaped names) (stmt_shaped names) y)
-clause_layer names c y is = fold_out-Clause (ClauseShapes → ClauseShapes) (Place → StmtShape) (ArmShapes → ArmShapes) BlockShape ContinuingShape ArmShapes StmtShape (clause_step names) (stmt_kind_step names) (arm_step names) (block_step names) (continuing_step names) otherwise_step stmt_step c ∙ ap (λ z. clause_step names (map-Clause Clause StmtKind Arm Block Continuing Otherwise Stmt (ClauseShapes → ClauseShapes) (Place → StmtShape) (ArmShapes → ArmShapes) BlockShape ContinuingShape ArmShapes StmtShape (clause_shaped names) (stmt_kind_shaped names) (arm_shaped names) (block_shaped names) (continuing_shaped names) (otherwise_shaped names) (stmt_shaped names) z)) is
+clause_layer : (names : List (List ℕ)) (c : Clause) (y : Clause-F Clause StmtKind Arm Block Continuing Otherwise Stmt) → out-Clause c ≡ y →
+    clause_shaped names c ≡ clause_step names
+    (map-Clause Clause StmtKind Arm Block Continuing Otherwise Stmt (ClauseShapes → ClauseShapes) (Place → StmtShape) (ArmShapes → ArmShapes) BlockShape ContinuingShape ArmShapes StmtShape
+    (clause_shaped names) (stmt_kind_shaped names) (arm_shaped names) (block_shaped names) (continuing_shaped names) (otherwise_shaped names) (stmt_shaped names) y)
+clause_layer names c y is = fold_out-Clause (ClauseShapes → ClauseShapes) (Place → StmtShape) (ArmShapes → ArmShapes) BlockShape ContinuingShape ArmShapes StmtShape (clause_step names)
+    (stmt_kind_step names) (arm_step names) (block_step names) (continuing_step names) otherwise_step stmt_step c ∙ ap
+    (λ z. clause_step names
+    (map-Clause Clause StmtKind Arm Block Continuing Otherwise Stmt (ClauseShapes → ClauseShapes) (Place → StmtShape) (ArmShapes → ArmShapes) BlockShape ContinuingShape ArmShapes StmtShape
+    (clause_shaped names) (stmt_kind_shaped names) (arm_shaped names) (block_shaped names) (continuing_shaped names) (otherwise_shaped names) (stmt_shaped names) z)) is
 
-clause_counted : (c : Clause) (y : Clause-F Clause StmtKind Arm Block Continuing Otherwise Stmt) → out-Clause c ≡ y → clause_count c ≡ clause_needs (map-Clause Clause StmtKind Arm Block Continuing Otherwise Stmt ℕ ℕ ℕ ℕ ℕ ℕ ℕ clause_count stmt_kind_count arm_count block_count continuing_count otherwise_count stmt_count y)
-clause_counted c y is = fold_out-Clause ℕ ℕ ℕ ℕ ℕ ℕ ℕ clause_needs stmt_kind_needs arm_needs block_layer_needs continuing_needs otherwise_needs stmt_layer_needs c ∙ ap (λ z. clause_needs (map-Clause Clause StmtKind Arm Block Continuing Otherwise Stmt ℕ ℕ ℕ ℕ ℕ ℕ ℕ clause_count stmt_kind_count arm_count block_count continuing_count otherwise_count stmt_count z)) is
+clause_counted : (c : Clause) (y : Clause-F Clause StmtKind Arm Block Continuing Otherwise Stmt) → out-Clause c ≡ y →
+    clause_count c ≡ clause_needs
+    (map-Clause Clause StmtKind Arm Block Continuing Otherwise Stmt ℕ ℕ ℕ ℕ ℕ ℕ ℕ clause_count stmt_kind_count arm_count block_count continuing_count otherwise_count stmt_count y)
+clause_counted c y is = fold_out-Clause ℕ ℕ ℕ ℕ ℕ ℕ ℕ clause_needs stmt_kind_needs arm_needs block_layer_needs continuing_needs otherwise_needs stmt_layer_needs c ∙ ap
+    (λ z. clause_needs
+    (map-Clause Clause StmtKind Arm Block Continuing Otherwise Stmt ℕ ℕ ℕ ℕ ℕ ℕ ℕ clause_count stmt_kind_count arm_count block_count continuing_count otherwise_count stmt_count z)) is
 
 clause_grows : (old new : List (List ℕ)) (c : Clause) → clause_count c ≤ length old → Grows old new → clause_shaped new c ≡ clause_shaped old c
 clause_grows old new c h g = by (out-Clause c) refl

@@ -25,7 +25,9 @@ pub answers : {T : Type 0} (r : Result T Fault) (P P2 : T → Type 0) (Q Q2 : Fa
 answers (Ok x) P P2 Q Q2 p q m = p x m
 answers (Err e) P P2 Q Q2 p q m = q e m
 
-pub fault_by : {R S : Type 0} (G : R → List Lexeme → List Lexeme → Type 0) (B : S → List Lexeme → List Lexeme → Type 0) (F H : List Lexeme → Type 0) (tokens : List Lexeme) (first mid new : List (List ℕ)) (from at : ℕ) (f : Fault) → length mid + from ≤ length first + at → ((to : ℕ) → FailsBy B H tokens at to → FailsBy G F tokens from to) → FaultsBy B H tokens mid new at f → FaultsBy G F tokens first new from f
+pub fault_by : {R S : Type 0} (G : R → List Lexeme → List Lexeme → Type 0) (B : S → List Lexeme → List Lexeme → Type 0) (F H : List Lexeme → Type 0) (tokens : List Lexeme)
+    (first mid new : List (List ℕ)) (from at : ℕ) (f : Fault) → length mid + from ≤ length first + at → ((to : ℕ) → FailsBy B H tokens at to → FailsBy G F tokens from to) →
+    FaultsBy B H tokens mid new at f → FaultsBy G F tokens first new from f
 fault_by G B F H tokens first mid new from at (fault.Unexpected to) le k x = record { fails = k to x.fails; few = (let few : length new + at ≤ length mid + to = x.few in omega arith) }
 fault_by G B F H tokens first mid new from at fault.NoMemory le k x = omega arith
 
@@ -57,7 +59,8 @@ as_read p = record { tree = p.expr; end = p.end; node = p.node }
 pub expr_read : (G : ExprShape → List Lexeme → List Lexeme → Type 0) (n : ℕ) (tokens : List Lexeme) (names : List (List ℕ)) (from node : ℕ) (p : Part) → ReadsTree G n tokens names [] from node p → ReadsOfBy expr_seen G (Above n) tokens names from node (as_read p)
 expr_read G n tokens names from node p x = record { reads = by_rank G n tokens from _ p.end x.reads; known = x.known; nodes = counted_all (expr_nodes p.expr) node p.node x.nodes }
 
-pub unexpected : {R : Type 0} (G : R → List Lexeme → List Lexeme → Type 0) (F : List Lexeme → Type 0) (tokens : List Lexeme) (first new : List (List ℕ)) (from at : ℕ) (f : Fault) → f ≡ fault.Unexpected at → length new + from ≤ length first + at → FailsBy G F tokens from at → FaultsBy G F tokens first new from f
+pub unexpected : {R : Type 0} (G : R → List Lexeme → List Lexeme → Type 0) (F : List Lexeme → Type 0) (tokens : List Lexeme) (first new : List (List ℕ)) (from at : ℕ) (f : Fault) →
+    f ≡ fault.Unexpected at → length new + from ≤ length first + at → FailsBy G F tokens from at → FaultsBy G F tokens first new from f
 unexpected G F tokens first new from at f same few x = subst (λ y. FaultsBy G F tokens first new from y) (sym same) (record { fails = x; few = few })
 
 -- what was read with the mark behind it

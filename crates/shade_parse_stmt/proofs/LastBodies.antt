@@ -79,7 +79,9 @@ no_statement s p q zs w g =
 -- neither a `}` nor a `break if` stands at the place
 module _ (tokens : List Lexeme) (at : ℕ) (no_brace : (p : Place) → slice_get tokens at ≡ Some (Mark sign.CloseBrace p) → ⊥) (no_leave : (p q : Place) → slice_get tokens at ≡ Some (Key word.Break p) → slice_get tokens (at + 1) ≡ Some (Key word.If q) → ⊥) where
   -- `grown` says that what was read is not empty, where the place has this token
-  no_last_end : (to : ℕ) (us : List Lexeme) → drop at tokens ≡ us ++ drop to tokens → ((p : Place) → slice_get tokens at ≡ Some (Key word.Break p) → (vs : List Lexeme) × (us ≡ Key word.Break p ∷ vs)) → (l : List StmtShape) (r : LastShape) (ys w : List Lexeme) → LastEnd l r (us ++ ys) w → Near ys (drop to tokens) → ⊥
+  no_last_end : (to : ℕ) (us : List Lexeme) → drop at tokens ≡ us ++ drop to tokens →
+      ((p : Place) → slice_get tokens at ≡ Some (Key word.Break p) → (vs : List Lexeme) × (us ≡ Key word.Break p ∷ vs)) → (l : List StmtShape) (r : LastShape) (ys w : List Lexeme) →
+      LastEnd l r (us ++ ys) w → Near ys (drop to tokens) → ⊥
   no_last_end to us spelled filled l r ys w k near = by k.part (us ++ ys) k.others k.phrase refl k.rest.place k.rest.split
     where
       by : (o : Option BreakIfShape) (ts others : List Lexeme) → Maybe BreaksIf o ts others → ts ≡ us ++ ys → (q : Place) {vs : List Lexeme} → others ≡ Mark sign.CloseBrace q ∷ vs → ⊥
@@ -103,7 +105,8 @@ module _ (tokens : List Lexeme) (size from : ℕ) (h : from ≤ length tokens) w
       brace_there : (l : List StmtShape) (r : LastShape) (zs w : List Lexeme) → LastEnd l r (Mark sign.CloseBrace p ∷ zs) w → Ends (record { body = l; leave = None; end = p }) r zs w
       brace_there l r zs w k = by k.part (Mark sign.CloseBrace p ∷ zs) k.others k.phrase refl k.rest.place k.rest.split k.rest.rest.same k.rest.rest.left
         where
-          by : (o : Option BreakIfShape) (ts us : List Lexeme) → Maybe BreaksIf o ts us → ts ≡ Mark sign.CloseBrace p ∷ zs → (q : Place) {vs : List Lexeme} → us ≡ Mark sign.CloseBrace q ∷ vs → r ≡ record { body = l; leave = o; end = q } → vs ≡ w → Ends (record { body = l; leave = None; end = p }) r zs w
+          by : (o : Option BreakIfShape) (ts us : List Lexeme) → Maybe BreaksIf o ts us → ts ≡ Mark sign.CloseBrace p ∷ zs → (q : Place) {vs : List Lexeme} →
+              us ≡ Mark sign.CloseBrace q ∷ vs → r ≡ record { body = l; leave = o; end = q } → vs ≡ w → Ends (record { body = l; leave = None; end = p }) r zs w
           by o ts us absent e q {vs} split same left =
               let both : Mark sign.CloseBrace p ∷ zs ≡ Mark sign.CloseBrace q ∷ vs = sym e ∙ split in
               let place : q ≡ p = cc in
@@ -147,10 +150,14 @@ module _ (tokens : List Lexeme) (size from : ℕ) (h : from ≤ length tokens) w
           list_fails Statement LastEnd LastStatements Anything tokens from Free statement_stops last_end_free at to (map (stmt_shape mid) items) t.stage last_end_closes f
           (λ r ys w stop k near. no_last_end tokens at no_brace no_leave to f.us f.spelled (λ p is. fails_nonempty Statement Free tokens at (Key word.Break p) is to f (break_stmt p) (Mark sign.Semicolon some_place ∷ []) [] (is_break p some_place) tt) (map (stmt_shape mid) items) r ys w k near)
 
-      pub last_more : (new : List (List ℕ)) → Grows mid new → (s : Read Stmt) → ReadsOfBy stmt_seen Statement Free tokens new at next s → s.end ≤ size → s.node + at ≤ next + s.end → length new + at ≤ length mid + s.end → (es : List Stmt) → es ≡ items ++ s.tree ∷ [] → LastWalk tokens size start new from node es s.end s.node
+      pub last_more : (new : List (List ℕ)) → Grows mid new → (s : Read Stmt) → ReadsOfBy stmt_seen Statement Free tokens new at next s → s.end ≤ size → s.node + at ≤ next + s.end →
+          length new + at ≤ length mid + s.end → (es : List Stmt) → es ≡ items ++ s.tree ∷ [] → LastWalk tokens size start new from node es s.end s.node
       last_more new g s x within numbered few es same =
           walk_more stmt_seen Statement LastEnd LastStatements Anything tokens size stmts_steady start mid new from node items at next t g Free statement_stops last_end_free s.tree es same s.end s.node x.reads x.known x.nodes
-          (λ r ys w stop k near. no_last_end tokens at no_brace no_leave s.end x.reads.us x.reads.spelled (λ p is. reads_nonempty Statement Free tokens at (Key word.Break p) is (stmt_shape new s.tree) s.end x.reads (λ v q. let f : First BeginsStatement [] = statement_first (stmt_shape new s.tree) [] v q in let bad : [] ≡ f.first ∷ f.others = f.split in cc)) (map (stmt_shape new) items) r ys w k near)
+          (λ r ys w stop k near. no_last_end tokens at no_brace no_leave s.end x.reads.us x.reads.spelled
+          (λ p is. reads_nonempty Statement Free tokens at (Key word.Break p) is (stmt_shape new s.tree) s.end x.reads
+          (λ v q. let f : First BeginsStatement [] = statement_first (stmt_shape new s.tree) [] v q in let bad : [] ≡ f.first ∷ f.others = f.split in cc))
+          (map (stmt_shape new) items) r ys w k near)
           within numbered few
 
     -- a `break if` does
@@ -165,7 +172,8 @@ module _ (tokens : List Lexeme) (size from : ℕ) (h : from ≤ length tokens) w
             | inr k ↦ by k.part (Key word.Break p ∷ (Key word.If q ∷ zs)) k.others k.phrase refl k.rest.place k.rest.split k.rest.rest.same k.rest.rest.left
           ]
         where
-          by : (o : Option BreakIfShape) (ts us : List Lexeme) → Maybe BreaksIf o ts us → ts ≡ Key word.Break p ∷ (Key word.If q ∷ zs) → (s : Place) {vs : List Lexeme} → us ≡ Mark sign.CloseBrace s ∷ vs → r ≡ record { body = l; leave = o; end = s } → vs ≡ w → After Leaves (λ v. Ends (leave_shape l v)) r zs w
+          by : (o : Option BreakIfShape) (ts us : List Lexeme) → Maybe BreaksIf o ts us → ts ≡ Key word.Break p ∷ (Key word.If q ∷ zs) → (s : Place) {vs : List Lexeme} →
+              us ≡ Mark sign.CloseBrace s ∷ vs → r ≡ record { body = l; leave = o; end = s } → vs ≡ w → After Leaves (λ v. Ends (leave_shape l v)) r zs w
           by o ts us absent e s {vs} split same left = absurd (let bad : Key word.Break p ∷ (Key word.If q ∷ zs) ≡ Mark sign.CloseBrace s ∷ vs = sym e ∙ split in let worse : Key word.Break p ≡ Mark sign.CloseBrace s = cc in cc)
           by o ts us (present {r = b} g) e s {vs} split same left =
               let k = break_rest b ts us g in
@@ -176,7 +184,19 @@ module _ (tokens : List Lexeme) (size from : ℕ) (h : from ≤ length tokens) w
               record {
                 part = (b.condition, s);
                 others = vs;
-                phrase = record { part = b.condition; others = us; phrase = record { part = b.condition; others = Mark sign.Semicolon k.1 ∷ us; phrase = subst (λ x. Expression b.condition x (Mark sign.Semicolon k.1 ∷ us)) rest k.3; rest = record { place = k.1; others = us; split = refl; rest = record { same = refl; left = refl } } }; rest = record { place = s; others = vs; split = split; rest = record { same = refl; left = refl } } };
+                phrase = record {
+                  part = b.condition;
+                  others = us;
+                  phrase = record {
+                    part = b.condition;
+                    others = Mark sign.Semicolon k.1 ∷ us;
+                    phrase = subst (λ x. Expression b.condition x (Mark sign.Semicolon k.1 ∷ us)) rest k.3;
+                    rest = record
+                        { place = k.1; others = us; split = refl; rest = record { same = refl; left = refl } };
+                  };
+                  rest = record
+                      { place = s; others = vs; split = split; rest = record { same = refl; left = refl } };
+                };
                 rest = record { same = same ∙ (λ i. record { body = l; leave = Some (record { break_place = first i; if_place = second i; condition = b.condition }); end = s }); left = left };
               }
 
@@ -185,7 +205,8 @@ module _ (tokens : List Lexeme) (size from : ℕ) (h : from ≤ length tokens) w
           let v = a.phrase in
           let e = v.phrase in
           let b : BreakIfShape = record { break_place = p; if_place = q; condition = v.part } in
-          let g : Expression v.part zs (Mark sign.Semicolon e.rest.place ∷ v.others) = subst (λ x. Expression x zs (Mark sign.Semicolon e.rest.place ∷ v.others)) (sym e.rest.rest.same) (subst (Expression e.part zs) (e.rest.split ∙ ap (λ x. Mark sign.Semicolon e.rest.place ∷ x) e.rest.rest.left) e.phrase) in
+          let g : Expression v.part zs (Mark sign.Semicolon e.rest.place ∷ v.others) = subst (λ x. Expression x zs (Mark sign.Semicolon e.rest.place ∷ v.others)) (sym e.rest.rest.same)
+          (subst (Expression e.part zs) (e.rest.split ∙ ap (λ x. Mark sign.Semicolon e.rest.place ∷ x) e.rest.rest.left) e.phrase) in
           choice_back Statement LastEnd l r (Key word.Break p ∷ (Key word.If q ∷ zs)) w (inr (record {
             part = Some b;
             others = v.others;
@@ -208,12 +229,20 @@ module _ (tokens : List Lexeme) (size from : ℕ) (h : from ≤ length tokens) w
       pub last_leave_fails : (to : ℕ) → FailsBy Leaves Anything tokens (at + 2) to → FailsBy LastStatements Anything tokens from to
       last_leave_fails to x = last_fails LastStatements Anything tokens from Leaves Anything (leave_shape (map (stmt_shape mid) items)) (λ w k. k) (at + 2) (leave_stage (map (stmt_shape mid) items) t.stage) to x
 
-      pub last_leave_tree : (new : List (List ℕ)) → Grows mid new → (v : Read Leave) → ReadsOfBy leave_seen Leaves Anything tokens new (at + 2) next v → ReadsOfBy last_seen LastStatements Anything tokens new from node (record { tree = record { statements = items; leave = Some (record { break_keyword = p; if_keyword = q; condition = v.tree.condition }); end = v.tree.end }; end = v.end; node = v.node })
+      pub last_leave_tree : (new : List (List ℕ)) → Grows mid new → (v : Read Leave) → ReadsOfBy leave_seen Leaves Anything tokens new (at + 2) next v →
+          ReadsOfBy last_seen LastStatements Anything tokens new from node
+          (record {
+            tree = record { statements = items; leave = Some (record { break_keyword = p; if_keyword = q; condition = v.tree.condition }); end = v.tree.end };
+            end = v.end;
+            node = v.node;
+          })
       last_leave_tree new g v x =
           let known : most_of stmt_needs items ≤ length new = walk_known stmt_seen Statement LastEnd LastStatements Anything tokens size stmts_steady start mid new from node items at next t g in
           let need : expr_needs v.tree.condition ≤ length new = x.known in
           record {
-            reads = last_reads LastStatements Anything tokens from Leaves Anything (leave_shape (map (stmt_shape new) items)) (λ w k. k) (at + 2) (leave_stage (map (stmt_shape new) items) (walk_stage stmt_seen Statement LastEnd LastStatements Anything tokens size stmts_steady start mid new from node items at next t g)) v.end (leave_seen.shape new v.tree) x.reads;
+            reads = last_reads LastStatements Anything tokens from Leaves Anything (leave_shape (map (stmt_shape new) items)) (λ w k. k) (at + 2)
+                (leave_stage (map (stmt_shape new) items) (walk_stage stmt_seen Statement LastEnd LastStatements Anything tokens size stmts_steady start mid new from node items at next t g))
+                v.end (leave_seen.shape new v.tree) x.reads;
             known = omega arith;
             nodes = count_join (joined_of stmt_nodes items) (expr_nodes v.tree.condition) node next v.node t.nodes x.nodes;
           }

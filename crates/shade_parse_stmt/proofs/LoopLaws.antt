@@ -38,7 +38,8 @@ use Rattle.shade_parse_stmt.proofs.Compounds.{attrs_later}
 
 -- what ends a list before a `}`
 pub last_end_closes : (l : List StmtShape) → Closes (LastEnd l)
-last_end_closes l = closes_after (Maybe BreaksIf) (λ o. Marked (Mark sign.CloseBrace) (λ q. Ends (record { body = l; leave = o; end = q }))) (maybe_closes BreaksIf) (λ o. closes_marked (Mark sign.CloseBrace) (λ q. Ends (record { body = l; leave = o; end = q })) (closes_end (record { body = l; leave = o; end = some_place })))
+last_end_closes l = closes_after (Maybe BreaksIf) (λ o. Marked (Mark sign.CloseBrace) (λ q. Ends (record { body = l; leave = o; end = q }))) (maybe_closes BreaksIf)
+    (λ o. closes_marked (Mark sign.CloseBrace) (λ q. Ends (record { body = l; leave = o; end = q })) (closes_end (record { body = l; leave = o; end = some_place })))
 
 last_closes : Closes LastStatements
 last_closes = closes_after (Many Statement) LastEnd (many_closes Statement) last_end_closes
@@ -65,10 +66,13 @@ module _ (keyword : Place) (tokens : List Lexeme) (from : ℕ) (h : from ≤ len
 
   module _ (names : List (List ℕ)) (node : ℕ) (a : Read (List Attr)) (x : ReadsOf attrs_seen (Many Attribute) 8 tokens names from node a) where
     part_stage : Step (ContinuingRest keyword) Anything tokens from a.end (PartBody keyword (attr_shapes names a.tree))
-    part_stage = phrase (ContinuingRest keyword) Anything tokens from (Many Attribute) (Above 8) (PartBody keyword) (λ b r zs w stop c. part_body_stops keyword b r zs w c) from a.end (attr_shapes names a.tree) (begin (ContinuingRest keyword) Anything tokens from h) (ranked_read attrs_seen (Many Attribute) 8 tokens names from node a x).reads
+    part_stage = phrase (ContinuingRest keyword) Anything tokens from (Many Attribute) (Above 8) (PartBody keyword) (λ b r zs w stop c. part_body_stops keyword b r zs w c) from a.end
+        (attr_shapes names a.tree) (begin (ContinuingRest keyword) Anything tokens from h) (ranked_read attrs_seen (Many Attribute) 8 tokens names from node a x).reads
 
     pub part_open : ((p : Place) → slice_get tokens a.end ≡ Some (Mark sign.OpenBrace p) → ⊥) → FailsBy (ContinuingRest keyword) Anything tokens from a.end
-    part_open never = stuck_mark (ContinuingRest keyword) Anything tokens from (Mark sign.OpenBrace) (λ p. After LastStatements (λ l. Ends (continuing_part keyword (attr_shapes names a.tree) (stmt_shapes l.body) l.leave l.end))) (part_inside_closes keyword (attr_shapes names a.tree)) a.end never part_stage
+    part_open never = stuck_mark (ContinuingRest keyword) Anything tokens from (Mark sign.OpenBrace)
+        (λ p. After LastStatements (λ l. Ends (continuing_part keyword (attr_shapes names a.tree) (stmt_shapes l.body) l.leave l.end)))
+        (part_inside_closes keyword (attr_shapes names a.tree)) a.end never part_stage
 
     module _ (p : Place) (is : slice_get tokens a.end ≡ Some (Mark sign.OpenBrace p)) where
       part_inside : Step (ContinuingRest keyword) Anything tokens from (a.end + 1) (After LastStatements (λ l. Ends (continuing_part keyword (attr_shapes names a.tree) (stmt_shapes l.body) l.leave l.end)))
@@ -80,10 +84,15 @@ module _ (keyword : Place) (tokens : List Lexeme) (from : ℕ) (h : from ≤ len
       part_reads : (l : LastShape) (to : ℕ) → ReadsBy LastStatements Anything tokens (a.end + 1) l to → ReadsBy (ContinuingRest keyword) Anything tokens from (continuing_part keyword (attr_shapes names a.tree) (stmt_shapes l.body) l.leave l.end) to
       part_reads l to y = last_reads (ContinuingRest keyword) Anything tokens from LastStatements Anything (λ l. continuing_part keyword (attr_shapes names a.tree) (stmt_shapes l.body) l.leave l.end) (λ w k. k) (a.end + 1) part_inside to l y
 
-  pub part_tree : (mid new : List (List ℕ)) (node : ℕ) (a : Read (List Attr)) → ReadsOf attrs_seen (Many Attribute) 8 tokens mid from node a → (p : Place) → slice_get tokens a.end ≡ Some (Mark sign.OpenBrace p) → Grows mid new → (b : Read LastBody) → ReadsOfBy last_seen LastStatements Anything tokens new (a.end + 1) a.node b → (c : Continuing) → out-Continuing c ≡ record { keyword = keyword; attrs = a.tree; body = b.tree.statements; leave = b.tree.leave; end = b.tree.end } → ReadsOfBy continuing_seen (ContinuingRest keyword) Anything tokens new from node (record { tree = c; end = b.end; node = b.node })
+  pub part_tree : (mid new : List (List ℕ)) (node : ℕ) (a : Read (List Attr)) → ReadsOf attrs_seen (Many Attribute) 8 tokens mid from node a → (p : Place) →
+      slice_get tokens a.end ≡ Some (Mark sign.OpenBrace p) → Grows mid new → (b : Read LastBody) → ReadsOfBy last_seen LastStatements Anything tokens new (a.end + 1) a.node b →
+      (c : Continuing) → out-Continuing c ≡ record { keyword = keyword; attrs = a.tree; body = b.tree.statements; leave = b.tree.leave; end = b.tree.end } →
+      ReadsOfBy continuing_seen (ContinuingRest keyword) Anything tokens new from node (record { tree = c; end = b.end; node = b.node })
   part_tree mid new node a x p is g b y c parts =
       let later : ReadsOf attrs_seen (Many Attribute) 8 tokens new from node a = attrs_later tokens from h mid new node a g x in
-      let shape : continuing_shaped new c ≡ continuing_part keyword (attr_shapes new a.tree) (stmt_shapes (map (stmt_shape new) b.tree.statements)) (option_map (break_if_shape new) b.tree.leave) b.tree.end = continuing_is new c ∙ ap (λ o. continuing_part o.keyword (attr_shapes new o.attrs) (stmt_shapes (map (stmt_shape new) o.body)) (option_map (break_if_shape new) o.leave) o.end) parts in
+      let shape : continuing_shaped new c ≡ continuing_part keyword (attr_shapes new a.tree) (stmt_shapes (map (stmt_shape new) b.tree.statements))
+      (option_map (break_if_shape new) b.tree.leave) b.tree.end = continuing_is new c ∙ ap
+      (λ o. continuing_part o.keyword (attr_shapes new o.attrs) (stmt_shapes (map (stmt_shape new) o.body)) (option_map (break_if_shape new) o.leave) o.end) parts in
       let count : continuing_count c ≡ max (attrs_need a.tree) (last_seen.needs b.tree) = continuing_counts c ∙ ap (λ o. max (attrs_need o.attrs) (max (most_of stmt_needs o.body) (maybe_needs break_if_needs o.leave))) parts in
       let numbers : continuing_numbers c ≡ attrs_nodes a.tree ++ last_seen.nodes b.tree = continuing_numbered c ∙ ap (λ o. attrs_nodes o.attrs ++ (joined_of stmt_nodes o.body ++ maybe_nodes break_if_nodes o.leave)) parts in
       let need_a : attrs_need a.tree ≤ length new = later.known in
@@ -147,7 +156,12 @@ abbrev LoopOf : List AttrShape → LoopShape → List Lexeme → List Lexeme →
 LoopOf inner = Marked (Mark sign.OpenBrace) (λ p. InsideOf inner)
 
 ends_closes : Closes LoopEnds
-ends_closes = record { tree = (no_continuing, some_place); more = Mark sign.CloseBrace some_place ∷ []; closed = λ w. loop_ends_back (no_continuing, some_place) (Mark sign.CloseBrace some_place ∷ w) w (record { first = Mark sign.CloseBrace some_place; others = w; split = refl; at = record { same = refl; left = refl } }) }
+ends_closes = record {
+  tree = (no_continuing, some_place);
+  more = Mark sign.CloseBrace some_place ∷ [];
+  closed = λ w. loop_ends_back (no_continuing, some_place) (Mark sign.CloseBrace some_place ∷ w) w
+      (record { first = Mark sign.CloseBrace some_place; others = w; split = refl; at = record { same = refl; left = refl } });
+}
 
 end_of_closes : (inner : List AttrShape) (l : List StmtShape) → Closes (EndOf inner l)
 end_of_closes inner l = closes_after LoopEnds (λ e. Ends (record { inner = inner; body = l; continuing = e.0; end = e.1 })) ends_closes (λ e. closes_end (record { inner = inner; body = l; continuing = e.0; end = e.1 }))
@@ -190,10 +204,18 @@ module _ (tokens : List Lexeme) (from : ℕ) (h : from ≤ length tokens) where
       loop_end_stage : (l : List StmtShape) (at : ℕ) → ReadsBy (Many Statement) Closing tokens (a.end + 1) l at → Step LoopRest Anything tokens from at (EndOf (attr_shapes names a.tree) l)
       loop_end_stage l at y = phrase LoopRest Anything tokens from (Many Statement) Closing (EndOf (attr_shapes names a.tree)) (λ b r zs w stop c. end_of_stops (attr_shapes names a.tree) b r zs w c) (a.end + 1) at l loop_inside y
 
-  pub loop_end_fails : (mid new : List (List ℕ)) (node : ℕ) (a : Read (List Attr)) → ReadsOf attrs_seen (Many Attribute) 8 tokens mid from node a → (p : Place) → slice_get tokens a.end ≡ Some (Mark sign.OpenBrace p) → Grows mid new → (b : Read (List Stmt)) → ReadsOfBy stmts_seen (Many Statement) Closing tokens new (a.end + 1) a.node b → (to : ℕ) → FailsBy LoopEnds Anything tokens b.end to → FailsBy LoopRest Anything tokens from to
-  loop_end_fails mid new node a x p is g b y to z = last_fails LoopRest Anything tokens from LoopEnds Anything (λ e. record { inner = attr_shapes mid a.tree; body = map (stmt_shape new) b.tree; continuing = e.0; end = e.1 }) (λ w k. k) b.end (loop_end_stage mid node a x p is (map (stmt_shape new) b.tree) b.end y.reads) to z
+  pub loop_end_fails : (mid new : List (List ℕ)) (node : ℕ) (a : Read (List Attr)) → ReadsOf attrs_seen (Many Attribute) 8 tokens mid from node a → (p : Place) →
+      slice_get tokens a.end ≡ Some (Mark sign.OpenBrace p) → Grows mid new → (b : Read (List Stmt)) → ReadsOfBy stmts_seen (Many Statement) Closing tokens new (a.end + 1) a.node b →
+      (to : ℕ) → FailsBy LoopEnds Anything tokens b.end to → FailsBy LoopRest Anything tokens from to
+  loop_end_fails mid new node a x p is g b y to z = last_fails LoopRest Anything tokens from LoopEnds Anything
+      (λ e. record { inner = attr_shapes mid a.tree; body = map (stmt_shape new) b.tree; continuing = e.0; end = e.1 }) (λ w k. k) b.end
+      (loop_end_stage mid node a x p is (map (stmt_shape new) b.tree) b.end y.reads) to z
 
-  pub loop_rest_tree : (first mid new : List (List ℕ)) (node : ℕ) (a : Read (List Attr)) → ReadsOf attrs_seen (Many Attribute) 8 tokens first from node a → (p : Place) → slice_get tokens a.end ≡ Some (Mark sign.OpenBrace p) → Grows first mid → (b : Read (List Stmt)) → ReadsOfBy stmts_seen (Many Statement) Closing tokens mid (a.end + 1) a.node b → Grows mid new → (e : Read LoopEnd) → ReadsOfBy loop_end_seen LoopEnds Anything tokens new b.end b.node e → ReadsOfBy loop_seen LoopRest Anything tokens new from node (record { tree = record { inner = a.tree; body = b.tree; continuing = e.tree.continuing; end = e.tree.end }; end = e.end; node = e.node })
+  pub loop_rest_tree : (first mid new : List (List ℕ)) (node : ℕ) (a : Read (List Attr)) → ReadsOf attrs_seen (Many Attribute) 8 tokens first from node a → (p : Place) →
+      slice_get tokens a.end ≡ Some (Mark sign.OpenBrace p) → Grows first mid → (b : Read (List Stmt)) → ReadsOfBy stmts_seen (Many Statement) Closing tokens mid (a.end + 1) a.node b →
+      Grows mid new → (e : Read LoopEnd) → ReadsOfBy loop_end_seen LoopEnds Anything tokens new b.end b.node e →
+      ReadsOfBy loop_seen LoopRest Anything tokens new from node
+      (record { tree = record { inner = a.tree; body = b.tree; continuing = e.tree.continuing; end = e.tree.end }; end = e.end; node = e.node })
   loop_rest_tree first mid new node a x p is g b y k e z =
       let a_mid : ReadsOf attrs_seen (Many Attribute) 8 tokens mid from node a = attrs_later tokens from h first mid node a g x in
       let a_new : ReadsOf attrs_seen (Many Attribute) 8 tokens new from node a = attrs_later tokens from h mid new node a k a_mid in
@@ -202,7 +224,8 @@ module _ (tokens : List Lexeme) (from : ℕ) (h : from ≤ length tokens) where
       let need_b : most_of stmt_needs b.tree ≤ length new = b_new.known in
       let need_e : loop_end_seen.needs e.tree ≤ length new = z.known in
       record {
-        reads = last_reads LoopRest Anything tokens from LoopEnds Anything (λ e. record { inner = attr_shapes new a.tree; body = map (stmt_shape new) b.tree; continuing = e.0; end = e.1 }) (λ w k. k) b.end (loop_end_stage new node a a_new p is (map (stmt_shape new) b.tree) b.end b_new.reads) e.end (loop_end_seen.shape new e.tree) z.reads;
+        reads = last_reads LoopRest Anything tokens from LoopEnds Anything (λ e. record { inner = attr_shapes new a.tree; body = map (stmt_shape new) b.tree; continuing = e.0; end = e.1 })
+            (λ w k. k) b.end (loop_end_stage new node a a_new p is (map (stmt_shape new) b.tree) b.end b_new.reads) e.end (loop_end_seen.shape new e.tree) z.reads;
         known = omega arith;
         nodes = count_join (attrs_nodes a.tree) (joined_of stmt_nodes b.tree ++ loop_end_seen.nodes e.tree) node a.node e.node a_new.nodes (count_join (joined_of stmt_nodes b.tree) (loop_end_seen.nodes e.tree) a.node b.node e.node b_new.nodes z.nodes);
       }

@@ -95,7 +95,8 @@ module _ (tokens : List Lexeme) (size from : ℕ) (h : from ≤ length tokens) w
           list_fails Statement StatementsEnd (Many Statement) Closing tokens from Free statement_stops statements_stops at to (map (stmt_shape mid) items) t.stage (λ l. closes_end l) f
           (λ r ys w stop e near. closing_near tokens at w stop (subst (λ x. Near x (drop at tokens)) e.left (spelled_near tokens at to f.us ys f.spelled near)) is)
 
-      pub statements_more : (new : List (List ℕ)) → Grows mid new → (s : Read Stmt) → ReadsOfBy stmt_seen Statement Free tokens new at next s → s.end ≤ size → s.node + at ≤ next + s.end → length new + at ≤ length mid + s.end → (es : List Stmt) → es ≡ items ++ s.tree ∷ [] → StatementWalk tokens size start new from node es s.end s.node
+      pub statements_more : (new : List (List ℕ)) → Grows mid new → (s : Read Stmt) → ReadsOfBy stmt_seen Statement Free tokens new at next s → s.end ≤ size → s.node + at ≤ next + s.end →
+          length new + at ≤ length mid + s.end → (es : List Stmt) → es ≡ items ++ s.tree ∷ [] → StatementWalk tokens size start new from node es s.end s.node
       statements_more new g s x within numbered few es same =
           walk_more stmt_seen Statement StatementsEnd (Many Statement) Closing tokens size stmts_steady start mid new from node items at next t g Free statement_stops statements_stops s.tree es same s.end s.node x.reads x.known x.nodes
           (λ r ys w stop e near. closing_near tokens at w stop (subst (λ y. Near y (drop at tokens)) e.left (spelled_near tokens at s.end x.reads.us ys x.reads.spelled near)) is)

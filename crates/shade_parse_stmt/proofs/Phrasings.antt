@@ -39,14 +39,41 @@ clauses_there cs ts us (case {selectors = ss} {trailing = trailing} {colon = col
     record {
       list = case_clause p ss trailing colon b ∷ k.list;
       same = ap (case_clause p ss trailing colon b) k.same;
-      phrases = more (record { first = Key word.Case p; others = vs; split = refl; at = record { part = (ss, trailing); others = ws; phrase = l; rest = record { part = (colon, b); others = zs; phrase = record { part = colon; others = xs; phrase = m; rest = record { part = b; others = zs; phrase = g; rest = ended (colon, b) zs } }; rest = ended (case_clause p ss trailing colon b) zs } } }) k.phrases;
+      phrases = more
+          (record {
+            first = Key word.Case p;
+            others = vs;
+            split = refl;
+            at = record {
+              part = (ss, trailing);
+              others = ws;
+              phrase = l;
+              rest = record {
+                part = (colon, b);
+                others = zs;
+                phrase = record { part = colon; others = xs; phrase = m; rest = record { part = b; others = zs; phrase = g; rest = ended (colon, b) zs } };
+                rest = ended (case_clause p ss trailing colon b) zs;
+              };
+            };
+          }) k.phrases;
     }
 clauses_there cs ts us (default {colon = colon} {b = b} {clauses = others} p {ts = vs} {us = ws} {vs = zs} m g h) =
     let k : Lists OneClause clause_shapes others zs us = clauses_there others zs us h in
     record {
       list = default_clause p colon b ∷ k.list;
       same = ap (default_clause p colon b) k.same;
-      phrases = more (record { first = Key word.Default p; others = vs; split = refl; at = record { part = (colon, b); others = zs; phrase = record { part = colon; others = ws; phrase = m; rest = record { part = b; others = zs; phrase = g; rest = ended (colon, b) zs } }; rest = ended (default_clause p colon b) zs } }) k.phrases;
+      phrases = more
+          (record {
+            first = Key word.Default p;
+            others = vs;
+            split = refl;
+            at = record {
+              part = (colon, b);
+              others = zs;
+              phrase = record { part = colon; others = ws; phrase = m; rest = record { part = b; others = zs; phrase = g; rest = ended (colon, b) zs } };
+              rest = ended (default_clause p colon b) zs;
+            };
+          }) k.phrases;
     }
 
 clause_back : (c : ClauseShapes → ClauseShapes) (t : Lexeme) (ts us : List Lexeme) → ClauseAt t c ts us → (cs : ClauseShapes) (vs : List Lexeme) → Clauses cs us vs → Clauses (c cs) (t ∷ ts) vs
@@ -74,7 +101,24 @@ arms_there a ts w (else_if {e = e} {b = b} {arms = others} p q {ts = us} {us = v
     record {
       part = else_if_arm p q e b ∷ k.part;
       others = k.others;
-      phrase = more (record { place = p; others = Key word.If q ∷ us; split = refl; rest = record { place = q; others = us; split = refl; rest = record { part = (e, b); others = ws; phrase = record { part = e; others = vs; phrase = g; rest = record { part = b; others = ws; phrase = h; rest = ended (e, b) ws } }; rest = ended (else_if_arm p q e b) ws } } }) k.phrase;
+      phrase = more
+          (record {
+            place = p;
+            others = Key word.If q ∷ us;
+            split = refl;
+            rest = record {
+              place = q;
+              others = us;
+              split = refl;
+              rest = record {
+                part = (e, b);
+                others = ws;
+                phrase = record { part = e; others = vs; phrase = g; rest = record { part = b; others = ws; phrase = h; rest = ended (e, b) ws } };
+                rest = ended
+                    (else_if_arm p q e b) ws;
+              };
+            };
+          }) k.phrase;
       rest = record { part = k.rest.part; others = k.rest.others; phrase = k.rest.phrase; rest = record { same = ap (else_if_arm p q e b) k.rest.rest.same; left = k.rest.rest.left } };
     }
 
@@ -142,7 +186,8 @@ block_statement b ts w (block attrs {body = body} p q {us = us} m s) =
     let l = statements_there body us (Mark sign.CloseBrace q ∷ w) s in
     head (Mark sign.OpenBrace p) m (record { part = (l.list, q); others = w; phrase = braced_there body q us w l; rest = record { same = ap (λ x. block_stmt (first_place attrs p) (braces (first_place attrs p) attrs x q)) l.same; left = refl } })
 
-loop_there : (inner : List AttrShape) (body : StmtShapes) (c : ContinuingShape) (q r : Place) (us vs ws w : List Lexeme) → Many Attribute inner us (Mark sign.OpenBrace q ∷ vs) → (l : Lists Statement stmt_shapes body vs ws) → MaybeContinuing c ws (Mark sign.CloseBrace r ∷ w) → LoopRest (record { inner = inner; body = l.list; continuing = c; end = r }) us w
+loop_there : (inner : List AttrShape) (body : StmtShapes) (c : ContinuingShape) (q r : Place) (us vs ws w : List Lexeme) → Many Attribute inner us (Mark sign.OpenBrace q ∷ vs) →
+    (l : Lists Statement stmt_shapes body vs ws) → MaybeContinuing c ws (Mark sign.CloseBrace r ∷ w) → LoopRest (record { inner = inner; body = l.list; continuing = c; end = r }) us w
 loop_there inner body c q r us vs ws w i l k =
     record { part = inner; others = Mark sign.OpenBrace q ∷ vs; phrase = i; rest = record { place = q; others = vs; split = refl; rest = record { part = l.list; others = ws; phrase = l.phrases; rest = record { part = (c, r); others = w; phrase = record { part = c; others = Mark sign.CloseBrace r ∷ w; phrase = k; rest = record { place = r; others = w; split = refl; rest = ended (c, r) w } }; rest = ended (record { inner = inner; body = l.list; continuing = c; end = r }) w } } } }
 
@@ -154,18 +199,105 @@ statement_there s ts w (is_return {e = e} p q {ts = us} g) = inr (inl (record { 
 statement_there s ts w (is_break p q) = inr (inl (record { first = Key word.Break p; others = Mark sign.Semicolon q ∷ w; split = refl; at = record { place = q; others = w; split = refl; rest = ended (break_stmt p) w } }))
 statement_there s ts w (is_continue p q) = inr (inl (record { first = Key word.Continue p; others = Mark sign.Semicolon q ∷ w; split = refl; at = record { place = q; others = w; split = refl; rest = ended (continue_stmt p) w } }))
 statement_there s ts w (is_discard p q) = inr (inl (record { first = Key word.Discard p; others = Mark sign.Semicolon q ∷ w; split = refl; at = record { place = q; others = w; split = refl; rest = ended (discard_stmt p) w } }))
-statement_there s ts w (is_assert {e = e} p q {ts = us} g) = inr (inl (record { first = Key word.ConstAssert p; others = us; split = refl; at = record { part = e; others = w; phrase = record { part = e; others = Mark sign.Semicolon q ∷ w; phrase = g; rest = record { place = q; others = w; split = refl; rest = ended e w } }; rest = ended (assert_stmt p e) w } }))
-statement_there s ts w (is_if attrs {e = e} {b = b} {arms = arms} p {us = us} {vs = vs} {ws = ws} m g h a) = inl (head (Key word.If p) m (record { part = (e, b); others = ws; phrase = record { part = e; others = vs; phrase = g; rest = record { part = b; others = ws; phrase = h; rest = ended (e, b) ws } }; rest = record { part = arms; others = w; phrase = arms_there arms ws w a; rest = ended (if_stmt (first_place attrs p) attrs p e b arms) w } }))
+statement_there s ts w (is_assert {e = e} p q {ts = us} g) = inr
+    (inl
+    (record {
+      first = Key word.ConstAssert p;
+      others = us;
+      split = refl;
+      at = record {
+        part = e;
+        others = w;
+        phrase = record { part = e; others = Mark sign.Semicolon q ∷ w; phrase = g; rest = record { place = q; others = w; split = refl; rest = ended e w } };
+        rest =
+            ended (assert_stmt p e) w;
+      };
+    }))
+statement_there s ts w (is_if attrs {e = e} {b = b} {arms = arms} p {us = us} {vs = vs} {ws = ws} m g h a) = inl
+    (head (Key word.If p) m
+    (record {
+      part = (e, b);
+      others = ws;
+      phrase = record { part = e; others = vs; phrase = g; rest = record { part = b; others = ws; phrase = h; rest = ended (e, b) ws } };
+      rest = record
+          { part = arms; others = w; phrase = arms_there arms ws w a; rest = ended (if_stmt (first_place attrs p) attrs p e b arms) w };
+    }))
 statement_there s ts w (is_switch attrs {e = e} {inner = inner} {clauses = cs} p q r {us = us} {vs = vs} {ws = ws} m g i c) =
     let l : Lists OneClause clause_shapes cs ws (Mark sign.CloseBrace r ∷ w) = clauses_there cs ws (Mark sign.CloseBrace r ∷ w) c in
-    inl (head (Key word.Switch p) m (record { part = record { selector = e; inner = inner; clauses = cs; end = r }; others = w; phrase = record { part = e; others = vs; phrase = g; rest = record { part = inner; others = Mark sign.OpenBrace q ∷ ws; phrase = i; rest = record { place = q; others = ws; split = refl; rest = record { part = l.list; others = Mark sign.CloseBrace r ∷ w; phrase = l.phrases; rest = record { place = r; others = w; split = refl; rest = record { same = λ k. record { selector = e; inner = inner; clauses = l.same k; end = r }; left = refl } } } } } }; rest = ended (switch_stmt (first_place attrs p) attrs p e inner cs r) w }))
+    inl
+    (head (Key word.Switch p) m
+    (record {
+      part = record { selector = e; inner = inner; clauses = cs; end = r };
+      others = w;
+      phrase = record {
+        part = e;
+        others = vs;
+        phrase = g;
+        rest = record {
+          part = inner;
+          others = Mark sign.OpenBrace q ∷ ws;
+          phrase = i;
+          rest = record {
+            place = q;
+            others = ws;
+            split = refl;
+            rest = record {
+              part = l.list;
+              others = Mark sign.CloseBrace r ∷ w;
+              phrase = l.phrases;
+              rest = record
+                  { place = r; others = w; split = refl; rest = record { same = λ k. record { selector = e; inner = inner; clauses = l.same k; end = r }; left = refl } };
+            };
+          };
+        };
+      };
+      rest =
+          ended (switch_stmt (first_place attrs p) attrs p e inner cs r) w;
+    }))
 statement_there s ts w (is_loop attrs {inner = inner} {body = body} {continuing = c} p q r {us = us} {vs = vs} {ws = ws} m i b k) =
     let l : Lists Statement stmt_shapes body vs ws = statements_there body vs ws b in
     inl (head (Key word.Loop p) m (record { part = record { inner = inner; body = l.list; continuing = c; end = r }; others = w; phrase = loop_there inner body c q r us vs ws w i l k; rest = record { same = ap (λ x. loop_stmt (first_place attrs p) attrs p inner x c r) l.same; left = refl } }))
 statement_there s ts w (is_for attrs {initial = i} {condition = c} {update = u} {b = b} p q r x o {us = us} {vs = vs} {ws = ws} {xs = xs} m f g h k) =
     let top : ForHeadShape = record { initial = i; condition = c; update = u } in
-    inl (head (Key word.For p) m (record { part = record { head = top; body = b }; others = w; phrase = record { part = top; others = xs; phrase = record { place = q; others = us; split = refl; rest = record { part = i; others = vs; phrase = until_there (Mark sign.Semicolon) SimpleStatement i us vs r f; rest = record { part = c; others = ws; phrase = until_there (Mark sign.Semicolon) Expression c vs ws x g; rest = record { part = u; others = xs; phrase = until_there (Mark sign.Close) UpdateOf u ws xs o h; rest = ended top xs } } } }; rest = record { part = b; others = w; phrase = k; rest = ended (record { head = top; body = b }) w } }; rest = ended (for_stmt (first_place attrs p) attrs p i c u b) w }))
-statement_there s ts w (is_while attrs {e = e} {b = b} p {us = us} {vs = vs} m g h) = inl (head (Key word.While p) m (record { part = (e, b); others = w; phrase = record { part = e; others = vs; phrase = g; rest = record { part = b; others = w; phrase = h; rest = ended (e, b) w } }; rest = ended (while_stmt (first_place attrs p) attrs p e b) w }))
+    inl
+    (head (Key word.For p) m
+    (record {
+      part = record { head = top; body = b };
+      others = w;
+      phrase = record {
+        part = top;
+        others = xs;
+        phrase = record {
+          place = q;
+          others = us;
+          split = refl;
+          rest = record {
+            part = i;
+            others = vs;
+            phrase = until_there (Mark sign.Semicolon) SimpleStatement i us vs r f;
+            rest = record {
+              part = c;
+              others = ws;
+              phrase = until_there (Mark sign.Semicolon) Expression c vs ws x g;
+              rest = record
+                  { part = u; others = xs; phrase = until_there (Mark sign.Close) UpdateOf u ws xs o h; rest = ended top xs };
+            };
+          };
+        };
+        rest = record
+            { part = b; others = w; phrase = k; rest = ended (record { head = top; body = b }) w };
+      };
+      rest = ended (for_stmt (first_place attrs p) attrs p i c u b) w;
+    }))
+statement_there s ts w (is_while attrs {e = e} {b = b} p {us = us} {vs = vs} m g h) = inl
+    (head (Key word.While p) m
+    (record {
+      part = (e, b);
+      others = w;
+      phrase = record { part = e; others = vs; phrase = g; rest = record { part = b; others = w; phrase = h; rest = ended (e, b) w } };
+      rest = ended
+          (while_stmt (first_place attrs p) attrs p e b) w;
+    }))
 
 guarded_back : (g : ExprShape × BlockShape) (ts us w : List Lexeme) → us ≡ w → Guards g ts us → (vs : List Lexeme) × Expression g.0 ts vs × Block g.1 vs w
 guarded_back g ts us w same k = (k.others, guards_expression g ts us k, subst (Block g.1 k.others) same (guards_block g ts us k))
@@ -220,7 +352,10 @@ compound_at_back attrs (Key word.For p) ts us w s m k =
     let is : k.part ≡ record { head = record { initial = i.part; condition = c.part; update = u.part }; body = b.part } = b.rest.same ∙ ap (λ x. record { head = x; body = b.part }) u.rest.same in
     let whole : s ≡ for_stmt (first_place attrs p) attrs p i.part c.part u.part b.part = k.rest.same ∙ ap (λ x. for_stmt (first_place attrs p) attrs p x.head.initial x.head.condition x.head.update x.body) is in
     subst (λ x. Statement x ts w) (sym whole)
-    (is_for attrs p f.place i.phrase.rest.place c.phrase.rest.place u.phrase.rest.place (subst (λ x. Many Attribute attrs ts (Key word.For p ∷ x)) f.split m) (until_back (Mark sign.Semicolon) SimpleStatement i.part f.others i.others i.phrase) (until_back (Mark sign.Semicolon) Expression c.part i.others c.others c.phrase) (subst (λ x. Maybe UpdateOf u.part c.others (Mark sign.Close u.phrase.rest.place ∷ x)) u.rest.left (until_back (Mark sign.Close) UpdateOf u.part c.others u.others u.phrase)) (subst (Block b.part k.phrase.others) (b.rest.left ∙ k.rest.left) b.phrase))
+    (is_for attrs p f.place i.phrase.rest.place c.phrase.rest.place u.phrase.rest.place (subst (λ x. Many Attribute attrs ts (Key word.For p ∷ x)) f.split m)
+    (until_back (Mark sign.Semicolon) SimpleStatement i.part f.others i.others i.phrase) (until_back (Mark sign.Semicolon) Expression c.part i.others c.others c.phrase)
+    (subst (λ x. Maybe UpdateOf u.part c.others (Mark sign.Close u.phrase.rest.place ∷ x)) u.rest.left (until_back (Mark sign.Close) UpdateOf u.part c.others u.others u.phrase))
+    (subst (Block b.part k.phrase.others) (b.rest.left ∙ k.rest.left) b.phrase))
 compound_at_back attrs (Key word.While p) ts us w s m k =
     let g : (vs : List Lexeme) × Expression k.part.0 us vs × Block k.part.1 vs w = guarded_back k.part us k.others w k.rest.left k.phrase in
     subst (λ x. Statement x ts w) (sym k.rest.same) (is_while attrs p m g.1 g.2)
@@ -269,7 +404,34 @@ loop_ends_there r ts w k = by k.part ts k.others k.phrase k.rest.place k.rest.sp
           at = record {
             part = c;
             others = us;
-            phrase = record { part = attrs; others = Mark sign.OpenBrace o ∷ ys; phrase = m; rest = record { place = o; others = ys; split = refl; rest = record { part = record { body = k.list; leave = leave; end = s }; others = us; phrase = record { part = k.list; others = zs; phrase = k.phrases; rest = record { part = leave; others = Mark sign.CloseBrace s ∷ us; phrase = l; rest = record { place = s; others = us; split = refl; rest = ended (record { body = k.list; leave = leave; end = s }) us } } }; rest = record { same = ap (λ x. continuing_part p attrs x leave s) k.same; left = refl } } } };
+            phrase = record {
+              part = attrs;
+              others = Mark sign.OpenBrace o ∷ ys;
+              phrase = m;
+              rest = record {
+                place = o;
+                others = ys;
+                split = refl;
+                rest = record {
+                  part = record { body = k.list; leave = leave; end = s };
+                  others = us;
+                  phrase = record {
+                    part = k.list;
+                    others = zs;
+                    phrase = k.phrases;
+                    rest = record {
+                      part = leave;
+                      others = Mark sign.CloseBrace s ∷ us;
+                      phrase = l;
+                      rest = record
+                          { place = s; others = us; split = refl; rest = ended (record { body = k.list; leave = leave; end = s }) us };
+                    };
+                  };
+                  rest = record
+                      { same = ap (λ x. continuing_part p attrs x leave s) k.same; left = refl };
+                };
+              };
+            };
             rest = record { place = q; others = vs; split = e; rest = record { same = same; left = left } };
           };
         }
@@ -280,7 +442,8 @@ continuing_back p c ts w k =
     let e = l.phrase.rest in
     let is : l.part ≡ record { body = l.phrase.part; leave = e.part; end = e.rest.place } = e.rest.rest.same in
     subst (λ x. MaybeContinuing x (Key word.Continuing p ∷ ts) w) (sym (l.rest.same ∙ ap (λ x. continuing_part p k.part (stmt_shapes x.body) x.leave x.end) is))
-    (continuing p k.rest.place e.rest.place (subst (Many Attribute k.part ts) k.rest.split k.phrase) (statements_back l.phrase.part k.rest.others l.phrase.others l.phrase.phrase) (subst (Maybe BreaksIf e.part l.phrase.others) (e.rest.split ∙ ap (λ x. Mark sign.CloseBrace e.rest.place ∷ x) (e.rest.rest.left ∙ l.rest.left)) e.phrase))
+    (continuing p k.rest.place e.rest.place (subst (Many Attribute k.part ts) k.rest.split k.phrase) (statements_back l.phrase.part k.rest.others l.phrase.others l.phrase.phrase)
+    (subst (Maybe BreaksIf e.part l.phrase.others) (e.rest.split ∙ ap (λ x. Mark sign.CloseBrace e.rest.place ∷ x) (e.rest.rest.left ∙ l.rest.left)) e.phrase))
 
 loop_end_at_back : (t : Lexeme) (r : ContinuingShape × Place) (us w : List Lexeme) → LoopEndAt t r us w → LoopEnds r (t ∷ us) w
 loop_end_at_back (Key word.Continuing p) r us w k = record { part = k.part; others = k.others; phrase = continuing_back p k.part us k.others k.phrase; rest = k.rest }

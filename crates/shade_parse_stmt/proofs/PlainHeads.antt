@@ -77,7 +77,8 @@ module _ (tokens : List Lexeme) (from : ℕ) (h : from ≤ length tokens) where
   plain_head : (t : Lexeme) → slice_get tokens from ≡ Some t → (BeginsSimple t → ⊥) → Step Plain Anything tokens from (from + 1) (PlainAt t)
   plain_head t is never = take_head Plain Anything tokens from from PlainAt SimpleEnd t is (λ r zs w stop d. never (first_is BeginsSimple t zs (simple_first d.part (t ∷ zs) d.others d.phrase))) (begin Plain Anything tokens from h)
 
-  pub plain_empty : (names : List (List ℕ)) (node : ℕ) (p : Place) → slice_get tokens from ≡ Some (Mark sign.Semicolon p) → (s : Read Stmt) → s ≡ record { tree = record { node = node; place = p; kind = kind.Empty }; end = from + 1; node = node + 1 } → ReadsOfBy stmt_seen Plain Anything tokens names from node s
+  pub plain_empty : (names : List (List ℕ)) (node : ℕ) (p : Place) → slice_get tokens from ≡ Some (Mark sign.Semicolon p) → (s : Read Stmt) →
+      s ≡ record { tree = record { node = node; place = p; kind = kind.Empty }; end = from + 1; node = node + 1 } → ReadsOfBy stmt_seen Plain Anything tokens names from node s
   plain_empty names node p is s same =
       subst (ReadsOfBy stmt_seen Plain Anything tokens names from node) (sym same)
       (statement_tree Plain Anything tokens names from node kind.Empty p (from + 1) node (empty_stmt p) 0 [] (shape-Empty names p) needs-Empty (omega arith) nodes-Empty refl
@@ -101,7 +102,8 @@ module _ (tokens : List Lexeme) (from : ℕ) (h : from ≤ length tokens) where
     jump_reads : (q : Place) → slice_get tokens (from + 1) ≡ Some (Mark sign.Semicolon q) → ReadsBy Plain Anything tokens from (jump_shape j p) (from + 1 + 1)
     jump_reads q closes = finish_ends Plain Anything tokens from (from + 1 + 1) (jump_shape j p) (jump_shape j p) refl (mark Plain Anything tokens from (Mark sign.Semicolon) (λ q. Ends (jump_shape j p)) (λ q. refl) (from + 1) q closes jump_stage)
 
-    pub jump_tree : (names : List (List ℕ)) (node : ℕ) (q : Place) → slice_get tokens (from + 1) ≡ Some (Mark sign.Semicolon q) → (k : StmtKind) → k ≡ kind_of j → (s : Read Stmt) → s ≡ record { tree = record { node = node; place = p; kind = k }; end = from + 2; node = node + 1 } → ReadsOfBy stmt_seen Plain Anything tokens names from node s
+    pub jump_tree : (names : List (List ℕ)) (node : ℕ) (q : Place) → slice_get tokens (from + 1) ≡ Some (Mark sign.Semicolon q) → (k : StmtKind) → k ≡ kind_of j → (s : Read Stmt) →
+        s ≡ record { tree = record { node = node; place = p; kind = k }; end = from + 2; node = node + 1 } → ReadsOfBy stmt_seen Plain Anything tokens names from node s
     jump_tree names node q closes k is_kind s same =
         let far : from + 1 + 1 ≡ from + 2 = omega arith in
         subst (ReadsOfBy stmt_seen Plain Anything tokens names from node) (sym (same ∙ ap (λ y. record { tree = record { node = node; place = p; kind = y }; end = from + 2; node = node + 1 }) is_kind))
@@ -115,7 +117,8 @@ module _ (tokens : List Lexeme) (from : ℕ) (h : from ≤ length tokens) where
     pub return_fails : (to : ℕ) → FailsBy UntilValue Anything tokens (from + 1) to → FailsBy Plain Anything tokens from to
     return_fails to x = last_fails Plain Anything tokens from UntilValue Anything (return_stmt p) (λ w k. k) (from + 1) return_stage to x
 
-    pub return_tree : (names : List (List ℕ)) (node : ℕ) (v : Read (Option Expr)) → ReadsOfBy value_seen UntilValue Anything tokens names (from + 1) node v → (s : Read Stmt) → s ≡ record { tree = record { node = v.node; place = p; kind = kind.Return v.tree }; end = v.end; node = v.node + 1 } → ReadsOfBy stmt_seen Plain Anything tokens names from node s
+    pub return_tree : (names : List (List ℕ)) (node : ℕ) (v : Read (Option Expr)) → ReadsOfBy value_seen UntilValue Anything tokens names (from + 1) node v → (s : Read Stmt) →
+        s ≡ record { tree = record { node = v.node; place = p; kind = kind.Return v.tree }; end = v.end; node = v.node + 1 } → ReadsOfBy stmt_seen Plain Anything tokens names from node s
     return_tree names node v x s same =
         subst (ReadsOfBy stmt_seen Plain Anything tokens names from node) (sym same)
         (statement_tree Plain Anything tokens names from node (kind.Return v.tree) p v.end v.node (return_stmt p (value_seen.shape names v.tree)) (maybe_needs expr_needs v.tree) (maybe_nodes expr_nodes v.tree) (shape-Return names p v.tree) (needs-Return v.tree) x.known (nodes-Return v.tree) x.nodes
@@ -128,7 +131,9 @@ module _ (tokens : List Lexeme) (from : ℕ) (h : from ≤ length tokens) where
     pub assert_fails : (to : ℕ) → FailsBy ValueEnd Anything tokens (from + 1) to → FailsBy Plain Anything tokens from to
     assert_fails to x = last_fails Plain Anything tokens from ValueEnd Anything (assert_stmt p) (λ w k. k) (from + 1) assert_stage to x
 
-    pub assert_tree : (names : List (List ℕ)) (node : ℕ) (v : Read Expr) → ReadsOfBy expr_seen ValueEnd Anything tokens names (from + 1) node v → (s : Read Stmt) → s ≡ record { tree = record { node = v.node; place = p; kind = kind.ConstAssert v.tree }; end = v.end; node = v.node + 1 } → ReadsOfBy stmt_seen Plain Anything tokens names from node s
+    pub assert_tree : (names : List (List ℕ)) (node : ℕ) (v : Read Expr) → ReadsOfBy expr_seen ValueEnd Anything tokens names (from + 1) node v → (s : Read Stmt) →
+        s ≡ record { tree = record { node = v.node; place = p; kind = kind.ConstAssert v.tree }; end = v.end; node = v.node + 1 } →
+        ReadsOfBy stmt_seen Plain Anything tokens names from node s
     assert_tree names node v x s same =
         subst (ReadsOfBy stmt_seen Plain Anything tokens names from node) (sym same)
         (statement_tree Plain Anything tokens names from node (kind.ConstAssert v.tree) p v.end v.node (assert_stmt p (expr_shape names v.tree)) (expr_needs v.tree) (expr_nodes v.tree) (shape-ConstAssert names p v.tree) (needs-ConstAssert v.tree) x.known (nodes-ConstAssert v.tree) x.nodes

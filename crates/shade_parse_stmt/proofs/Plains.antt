@@ -52,7 +52,12 @@ module _ (tokens : List Lexeme) (from : ℕ) (h : from ≤ length tokens) where
     value_end_open never = closed_open ValueEnd Anything tokens from Expression (Above 7) (Mark sign.Semicolon) (λ p. refl) (λ p ts. omega arith) (λ b p. b) from (begin ValueEnd Anything tokens from h) p.end (expr_seen.shape names p.expr) value_read.reads never
 
     pub value_end_tree : (q : Place) → slice_get tokens p.end ≡ Some (Mark sign.Semicolon q) → ReadsOfBy expr_seen ValueEnd Anything tokens names from node (record { tree = p.expr; end = p.end + 1; node = p.node })
-    value_end_tree q is = record { reads = closed_reads ValueEnd Anything tokens from Expression (Above 7) (Mark sign.Semicolon) (λ p. refl) (λ p ts. omega arith) (λ b p. b) from (begin ValueEnd Anything tokens from h) p.end (expr_seen.shape names p.expr) value_read.reads q is; known = value_read.known; nodes = value_read.nodes }
+    value_end_tree q is = record {
+      reads = closed_reads ValueEnd Anything tokens from Expression (Above 7) (Mark sign.Semicolon) (λ p. refl) (λ p ts. omega arith) (λ b p. b) from
+          (begin ValueEnd Anything tokens from h) p.end (expr_seen.shape names p.expr) value_read.reads q is;
+      known = value_read.known;
+      nodes = value_read.nodes;
+    }
 
     pub value_open : ((q : Place) → slice_get tokens from ≡ Some (Mark sign.Semicolon q) → ⊥) → ((q : Place) → slice_get tokens p.end ≡ Some (Mark sign.Semicolon q) → ⊥) → FailsBy UntilValue Anything tokens from p.end
     value_open never isnt = until_open (Mark sign.Semicolon) (λ p. refl) Expression (Above 7) (λ p ts. omega arith) no_value Anything tokens from h never p.end (expr_seen.shape names p.expr) value_read.reads isnt
@@ -86,8 +91,11 @@ module _ (tokens : List Lexeme) (from : ℕ) (h : from ≤ length tokens) where
       pub maybe_simple_open : ((q : Place) → slice_get tokens r.end ≡ Some (Mark sign.Semicolon q) → ⊥) → FailsBy UntilSimple Anything tokens from r.end
       maybe_simple_open isnt = until_open (Mark sign.Semicolon) (λ p. refl) SimpleStatement (Above 8) (λ p ts. omega arith) no_simple Anything tokens from h never r.end (simple_seen.shape names r.tree) simple_read.reads isnt
 
-      pub some_simple_tree : (q : Place) → slice_get tokens r.end ≡ Some (Mark sign.Semicolon q) → (whole : Read Simple) → whole.tree ≡ r.tree → whole.end ≡ r.end + 1 → whole.node ≡ r.node → ReadsOfBy maybe_simple_seen UntilSimple Anything tokens names from node (record { tree = Some whole.tree; end = whole.end; node = whole.node })
-      some_simple_tree q is whole tree end next = subst (λ y. ReadsOfBy maybe_simple_seen UntilSimple Anything tokens names from node (record { tree = Some y.tree; end = y.end; node = y.node })) (sym (as_before r whole tree end next)) (some_tree (Mark sign.Semicolon) (λ p. refl) SimpleStatement (Above 8) (λ p ts. omega arith) no_simple Anything tokens from h simple_seen names node never r simple_read q is)
+      pub some_simple_tree : (q : Place) → slice_get tokens r.end ≡ Some (Mark sign.Semicolon q) → (whole : Read Simple) → whole.tree ≡ r.tree → whole.end ≡ r.end + 1 → whole.node ≡ r.node →
+          ReadsOfBy maybe_simple_seen UntilSimple Anything tokens names from node (record { tree = Some whole.tree; end = whole.end; node = whole.node })
+      some_simple_tree q is whole tree end next = subst
+          (λ y. ReadsOfBy maybe_simple_seen UntilSimple Anything tokens names from node (record { tree = Some y.tree; end = y.end; node = y.node })) (sym (as_before r whole tree end next))
+          (some_tree (Mark sign.Semicolon) (λ p. refl) SimpleStatement (Above 8) (λ p ts. omega arith) no_simple Anything tokens from h simple_seen names node never r simple_read q is)
 
   module _ (never : ((q : Place) → slice_get tokens from ≡ Some (Mark sign.Close q) → ⊥)) where
     pub maybe_update_fails : (to : ℕ) → FailsBy UpdateOf (Above 7) tokens from to → FailsBy UntilUpdate Anything tokens from to
@@ -100,8 +108,11 @@ module _ (tokens : List Lexeme) (from : ℕ) (h : from ≤ length tokens) where
       pub maybe_update_open : ((q : Place) → slice_get tokens r.end ≡ Some (Mark sign.Close q) → ⊥) → FailsBy UntilUpdate Anything tokens from r.end
       maybe_update_open isnt = until_open (Mark sign.Close) (λ p. refl) UpdateOf (Above 7) (λ p ts. omega arith) no_update Anything tokens from h never r.end (update_seen.shape names r.tree) update_read.reads isnt
 
-      pub some_update_tree : (q : Place) → slice_get tokens r.end ≡ Some (Mark sign.Close q) → (whole : Read Update) → whole.tree ≡ r.tree → whole.end ≡ r.end + 1 → whole.node ≡ r.node → ReadsOfBy maybe_update_seen UntilUpdate Anything tokens names from node (record { tree = Some whole.tree; end = whole.end; node = whole.node })
-      some_update_tree q is whole tree end next = subst (λ y. ReadsOfBy maybe_update_seen UntilUpdate Anything tokens names from node (record { tree = Some y.tree; end = y.end; node = y.node })) (sym (as_before r whole tree end next)) (some_tree (Mark sign.Close) (λ p. refl) UpdateOf (Above 7) (λ p ts. omega arith) no_update Anything tokens from h update_seen names node never r update_read q is)
+      pub some_update_tree : (q : Place) → slice_get tokens r.end ≡ Some (Mark sign.Close q) → (whole : Read Update) → whole.tree ≡ r.tree → whole.end ≡ r.end + 1 → whole.node ≡ r.node →
+          ReadsOfBy maybe_update_seen UntilUpdate Anything tokens names from node (record { tree = Some whole.tree; end = whole.end; node = whole.node })
+      some_update_tree q is whole tree end next = subst
+          (λ y. ReadsOfBy maybe_update_seen UntilUpdate Anything tokens names from node (record { tree = Some y.tree; end = y.end; node = y.node })) (sym (as_before r whole tree end next))
+          (some_tree (Mark sign.Close) (λ p. refl) UpdateOf (Above 7) (λ p ts. omega arith) no_update Anything tokens from h update_seen names node never r update_read q is)
 
   -- an expression, a `;` and a `}`
   pub leave_fails : (to : ℕ) → FailsBy ValueEnd Anything tokens from to → FailsBy Leaves Anything tokens from to
@@ -123,9 +134,13 @@ module _ (tokens : List Lexeme) (from : ℕ) (h : from ≤ length tokens) where
     simple_part = ranked_read simple_seen SimpleStatement 8 tokens names from node r x
 
     pub simple_end_open : ((q : Place) → slice_get tokens r.end ≡ Some (Mark sign.Semicolon q) → ⊥) → FailsBy SimpleEnd Anything tokens from r.end
-    simple_end_open never = closed_open SimpleEnd Anything tokens from SimpleStatement (Above 8) (Mark sign.Semicolon) (λ p. refl) (λ p ts. omega arith) (λ s p. simple_stmt (simple_place s) s) from (begin SimpleEnd Anything tokens from h) r.end (simple_seen.shape names r.tree) simple_part.reads never
+    simple_end_open never = closed_open SimpleEnd Anything tokens from SimpleStatement (Above 8) (Mark sign.Semicolon) (λ p. refl) (λ p ts. omega arith)
+        (λ s p. simple_stmt (simple_place s) s) from (begin SimpleEnd Anything tokens from h) r.end (simple_seen.shape names r.tree) simple_part.reads never
 
-    pub simple_end_tree : (q : Place) → slice_get tokens r.end ≡ Some (Mark sign.Semicolon q) → (whole : Read Simple) → whole.tree ≡ r.tree → whole.end ≡ r.end + 1 → whole.node ≡ r.node → (place : Place) → place ≡ simple_first whole.tree → (s : Read Stmt) → s ≡ record { tree = record { node = whole.node; place = place; kind = kind.Simple whole.tree }; end = whole.end; node = whole.node + 1 } → ReadsOfBy stmt_seen SimpleEnd Anything tokens names from node s
+    pub simple_end_tree : (q : Place) → slice_get tokens r.end ≡ Some (Mark sign.Semicolon q) → (whole : Read Simple) → whole.tree ≡ r.tree → whole.end ≡ r.end + 1 → whole.node ≡ r.node →
+        (place : Place) → place ≡ simple_first whole.tree → (s : Read Stmt) →
+        s ≡ record { tree = record { node = whole.node; place = place; kind = kind.Simple whole.tree }; end = whole.end; node = whole.node + 1 } →
+        ReadsOfBy stmt_seen SimpleEnd Anything tokens names from node s
     simple_end_tree q is whole tree end next place first s same =
         subst (ReadsOfBy stmt_seen SimpleEnd Anything tokens names from node) (sym (same ∙ ap (λ y. record { tree = record { node = whole.node; place = y; kind = kind.Simple whole.tree }; end = whole.end; node = whole.node + 1 }) first))
         (subst (λ y. ReadsOfBy stmt_seen SimpleEnd Anything tokens names from node (record { tree = record { node = y.node; place = simple_first y.tree; kind = kind.Simple y.tree }; end = y.end; node = y.node + 1 })) (sym (as_before r whole tree end next))

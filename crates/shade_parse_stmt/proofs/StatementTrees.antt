@@ -25,7 +25,10 @@ pub count_last : (nodes : List ℕ) (from last : ℕ) → CountFrom from nodes l
 count_last nodes from last c = count_join nodes (last ∷ []) from last (last + 1) c (refl, refl)
 
 -- a statement that was read
-pub statement_tree : (G : StmtShape → List Lexeme → List Lexeme → Type 0) (F : List Lexeme → Type 0) (tokens : List Lexeme) (names : List (List ℕ)) (from node : ℕ) (k : StmtKind) (place : Place) (end last : ℕ) (s : StmtShape) (needs : ℕ) (nodes : List ℕ) → stmt_kind_shaped names k place ≡ s → stmt_kind_count k ≡ needs → needs ≤ length names → stmt_kind_numbers k ≡ nodes → CountFrom node nodes last → ReadsBy G F tokens from s end → ReadsOfBy stmt_seen G F tokens names from node (record { tree = record { node = last; place = place; kind = k }; end = end; node = last + 1 })
+pub statement_tree : (G : StmtShape → List Lexeme → List Lexeme → Type 0) (F : List Lexeme → Type 0) (tokens : List Lexeme) (names : List (List ℕ)) (from node : ℕ) (k : StmtKind)
+    (place : Place) (end last : ℕ) (s : StmtShape) (needs : ℕ) (nodes : List ℕ) → stmt_kind_shaped names k place ≡ s → stmt_kind_count k ≡ needs → needs ≤ length names →
+    stmt_kind_numbers k ≡ nodes → CountFrom node nodes last → ReadsBy G F tokens from s end →
+    ReadsOfBy stmt_seen G F tokens names from node (record { tree = record { node = last; place = place; kind = k }; end = end; node = last + 1 })
 statement_tree G F tokens names from node k place end last s needs nodes shape count known numbers counted x =
     let t : Stmt = record { node = last; place = place; kind = k } in
     record {

@@ -116,7 +116,8 @@ module _ (tokens : List Lexeme) (size from : ℕ) (h : from ≤ length tokens) w
           list_fails OneClause ClausesEnd (Many OneClause) (Above 9) tokens from (Above 0) clause_first clauses_last at to (map (clause_shaped mid) items) t.stage (λ l. closes_end l) f
           (λ r ys w stop e near. clause_apart here.0 here.2 f.us (fails_nonempty OneClause (Above 0) tokens at here.0 here.1 to f some.0 some.1 [] some.2 (omega arith)) (map (clause_shaped mid) items) r ys w stop e)
 
-      pub clauses_more : (new : List (List ℕ)) → Grows mid new → (s : Read Clause) → ReadsOfBy clause_seen OneClause (Above 0) tokens new at next s → s.end ≤ size → s.node + at ≤ next + s.end → length new + at ≤ length mid + s.end → (es : List Clause) → es ≡ items ++ s.tree ∷ [] → ClauseWalk tokens size start new from node es s.end s.node
+      pub clauses_more : (new : List (List ℕ)) → Grows mid new → (s : Read Clause) → ReadsOfBy clause_seen OneClause (Above 0) tokens new at next s → s.end ≤ size →
+          s.node + at ≤ next + s.end → length new + at ≤ length mid + s.end → (es : List Clause) → es ≡ items ++ s.tree ∷ [] → ClauseWalk tokens size start new from node es s.end s.node
       clauses_more new g s x within numbered few es same =
           let here : (t : Lexeme) × (slice_get tokens at ≡ Some t) × (is_clause t ≡ true) = clause_stands (slice_get tokens at) is in
           walk_more clause_seen OneClause ClausesEnd (Many OneClause) (Above 9) tokens size clauses_steady start mid new from node items at next t g (Above 0) clause_first clauses_last s.tree es same s.end s.node x.reads x.known x.nodes

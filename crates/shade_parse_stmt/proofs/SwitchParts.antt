@@ -69,12 +69,15 @@ module _ (tokens : List Lexeme) (from : ℕ) (h : from ≤ length tokens) where
   brace_stage : (e : ExprShape) (at : ℕ) → ReadsBy Expression (Above 7) tokens from e at → (inner : List AttrShape) (to : ℕ) → ReadsBy (Many Attribute) (Above 8) tokens at inner to → Step SwitchRest Anything tokens from to (BracedOf e inner)
   brace_stage e at x inner to y = phrase SwitchRest Anything tokens from (Many Attribute) (Above 8) (BracedOf e) (λ b r zs w stop k. braced_of_stops e b r zs w k) at to inner (attrs_stage e at x) y
 
-  clauses_stage : (e : ExprShape) (at : ℕ) → ReadsBy Expression (Above 7) tokens from e at → (inner : List AttrShape) (to : ℕ) → ReadsBy (Many Attribute) (Above 8) tokens at inner to → (p : Place) → slice_get tokens to ≡ Some (Mark sign.OpenBrace p) → Step SwitchRest Anything tokens from (to + 1) (ClausesOf e inner)
+  clauses_stage : (e : ExprShape) (at : ℕ) → ReadsBy Expression (Above 7) tokens from e at → (inner : List AttrShape) (to : ℕ) → ReadsBy (Many Attribute) (Above 8) tokens at inner to →
+      (p : Place) → slice_get tokens to ≡ Some (Mark sign.OpenBrace p) → Step SwitchRest Anything tokens from (to + 1) (ClausesOf e inner)
   clauses_stage e at x inner to y p is = mark SwitchRest Anything tokens from (Mark sign.OpenBrace) (λ p. ClausesOf e inner) (λ p. refl) to p is (brace_stage e at x inner to y)
 
   module _ (first : List (List ℕ)) (node : ℕ) (e : Part) (x : ReadsTree Expression 7 tokens first [] from node e) where
     pub switch_attrs_fails : (to : ℕ) → FailsBy (Many Attribute) (Above 8) tokens e.end to → FailsBy SwitchRest Anything tokens from to
-    switch_attrs_fails to y = phrase_fails SwitchRest Anything tokens from (Many Attribute) (Above 8) (BracedOf (expr_shape first e.expr)) (λ b r zs w stop k. braced_of_stops (expr_shape first e.expr) b r zs w k) e.end to (braced_of_closes (expr_shape first e.expr)) (attrs_stage (expr_shape first e.expr) e.end (expr_read Expression 7 tokens first from node e x).reads) y
+    switch_attrs_fails to y = phrase_fails SwitchRest Anything tokens from (Many Attribute) (Above 8) (BracedOf (expr_shape first e.expr))
+        (λ b r zs w stop k. braced_of_stops (expr_shape first e.expr) b r zs w k) e.end to (braced_of_closes (expr_shape first e.expr))
+        (attrs_stage (expr_shape first e.expr) e.end (expr_read Expression 7 tokens first from node e x).reads) y
 
     module _ (mid : List (List ℕ)) (a : Read (List Attr)) (y : ReadsOf attrs_seen (Many Attribute) 8 tokens mid e.end e.node a) where
       pub switch_open : ((p : Place) → slice_get tokens a.end ≡ Some (Mark sign.OpenBrace p) → ⊥) → FailsBy SwitchRest Anything tokens from a.end
@@ -92,7 +95,11 @@ module _ (tokens : List Lexeme) (from : ℕ) (h : from ≤ length tokens) where
         pub switch_end_open : (new : List (List ℕ)) (l : Read (List Clause)) → ReadsOfBy clauses_seen (Many OneClause) (Above 9) tokens new (a.end + 1) a.node l → ((q : Place) → slice_get tokens l.end ≡ Some (Mark sign.CloseBrace q) → ⊥) → FailsBy SwitchRest Anything tokens from l.end
         switch_end_open new l z never = closed_open SwitchRest Anything tokens from (Many OneClause) (Above 9) (Mark sign.CloseBrace) (λ q. refl) (λ q ts. omega arith) (switched (expr_shape first e.expr) (attr_shapes mid a.tree)) (a.end + 1) inside l.end (clauses_seen.shape new l.tree) z.reads never
 
-  pub switch_rest_tree : (first mid new : List (List ℕ)) (node : ℕ) (e : Part) → ReadsTree Expression 7 tokens first [] from node e → Grows first mid → (a : Read (List Attr)) → ReadsOf attrs_seen (Many Attribute) 8 tokens mid e.end e.node a → (p : Place) → slice_get tokens a.end ≡ Some (Mark sign.OpenBrace p) → Grows mid new → (l : Read (List Clause)) → ReadsOfBy clauses_seen (Many OneClause) (Above 9) tokens new (a.end + 1) a.node l → (q : Place) → slice_get tokens l.end ≡ Some (Mark sign.CloseBrace q) → ReadsOfBy switch_seen SwitchRest Anything tokens new from node (record { tree = record { selector = e.expr; inner = a.tree; clauses = l.tree; end = q }; end = l.end + 1; node = l.node })
+  pub switch_rest_tree : (first mid new : List (List ℕ)) (node : ℕ) (e : Part) → ReadsTree Expression 7 tokens first [] from node e → Grows first mid → (a : Read (List Attr)) →
+      ReadsOf attrs_seen (Many Attribute) 8 tokens mid e.end e.node a → (p : Place) → slice_get tokens a.end ≡ Some (Mark sign.OpenBrace p) → Grows mid new → (l : Read (List Clause)) →
+      ReadsOfBy clauses_seen (Many OneClause) (Above 9) tokens new (a.end + 1) a.node l → (q : Place) → slice_get tokens l.end ≡ Some (Mark sign.CloseBrace q) →
+      ReadsOfBy switch_seen SwitchRest Anything tokens new from node
+      (record { tree = record { selector = e.expr; inner = a.tree; clauses = l.tree; end = q }; end = l.end + 1; node = l.node })
   switch_rest_tree first mid new node e x g a y p is k l z q closes =
       let e_new : ReadsOfBy expr_seen Expression (Above 7) tokens new from node (as_read e) = grown expr_seen expr_steady Expression (Above 7) tokens first new from node (as_read e) (grows_trans first mid new g k) (expr_read Expression 7 tokens first from node e x) in
       let a_new : ReadsOfBy attrs_seen (Many Attribute) (Above 8) tokens new e.end e.node a = grown attrs_seen attrs_steady (Many Attribute) (Above 8) tokens mid new e.end e.node a k (ranked_read attrs_seen (Many Attribute) 8 tokens mid e.end e.node a y) in

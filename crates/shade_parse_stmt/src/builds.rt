@@ -98,7 +98,15 @@ pub fn if_statement(
     others: Read<Branches>,
 ) -> Read<Stmt>
     requires { others.node + 1 < 2 ^ 32 }
-    ensures { result ≡ record { tree = record { node = others.node; place = first_of attrs keyword; kind = StmtKind.If attrs keyword first.condition first.body others.tree.arms others.tree.otherwise }; end = others.end; node = others.node + 1 } }
+    ensures { result ≡ record {
+      tree = record {
+        node = others.node;
+        place = first_of attrs keyword;
+        kind = StmtKind.If attrs keyword first.condition first.body others.tree.arms others.tree.otherwise;
+      };
+      end = others.end;
+      node = others.node + 1;
+    } }
 {
     let place = first_place(&attrs, keyword);
     let kind = StmtKind::If {
@@ -115,7 +123,15 @@ pub fn if_statement(
 /// A `switch`.
 pub fn switch_statement(attrs: Items<Attr>, keyword: Place, rest: Read<SwitchParts>) -> Read<Stmt>
     requires { rest.node + 1 < 2 ^ 32 }
-    ensures { result ≡ record { tree = record { node = rest.node; place = first_of attrs keyword; kind = StmtKind.Switch attrs keyword rest.tree.selector rest.tree.inner rest.tree.clauses rest.tree.end }; end = rest.end; node = rest.node + 1 } }
+    ensures { result ≡ record {
+      tree = record {
+        node = rest.node;
+        place = first_of attrs keyword;
+        kind = StmtKind.Switch attrs keyword rest.tree.selector rest.tree.inner rest.tree.clauses rest.tree.end;
+      };
+      end = rest.end;
+      node = rest.node + 1;
+    } }
 {
     let place = first_place(&attrs, keyword);
     let kind = StmtKind::Switch {
@@ -132,7 +148,15 @@ pub fn switch_statement(attrs: Items<Attr>, keyword: Place, rest: Read<SwitchPar
 /// A `loop`.
 pub fn loop_statement(attrs: Items<Attr>, keyword: Place, rest: Read<LoopParts>) -> Read<Stmt>
     requires { rest.node + 1 < 2 ^ 32 }
-    ensures { result ≡ record { tree = record { node = rest.node; place = first_of attrs keyword; kind = StmtKind.Loop attrs keyword rest.tree.inner rest.tree.body rest.tree.continuing rest.tree.end }; end = rest.end; node = rest.node + 1 } }
+    ensures { result ≡ record {
+      tree = record {
+        node = rest.node;
+        place = first_of attrs keyword;
+        kind = StmtKind.Loop attrs keyword rest.tree.inner rest.tree.body rest.tree.continuing rest.tree.end;
+      };
+      end = rest.end;
+      node = rest.node + 1;
+    } }
 {
     let place = first_place(&attrs, keyword);
     let kind = StmtKind::Loop {
@@ -149,7 +173,15 @@ pub fn loop_statement(attrs: Items<Attr>, keyword: Place, rest: Read<LoopParts>)
 /// A `for`.
 pub fn for_statement(attrs: Items<Attr>, keyword: Place, rest: Read<ForParts>) -> Read<Stmt>
     requires { rest.node + 1 < 2 ^ 32 }
-    ensures { result ≡ record { tree = record { node = rest.node; place = first_of attrs keyword; kind = StmtKind.For attrs keyword rest.tree.head.initial rest.tree.head.condition rest.tree.head.update rest.tree.body }; end = rest.end; node = rest.node + 1 } }
+    ensures { result ≡ record {
+      tree = record {
+        node = rest.node;
+        place = first_of attrs keyword;
+        kind = StmtKind.For attrs keyword rest.tree.head.initial rest.tree.head.condition rest.tree.head.update rest.tree.body;
+      };
+      end = rest.end;
+      node = rest.node + 1;
+    } }
 {
     let place = first_place(&attrs, keyword);
     let kind = StmtKind::For {
@@ -166,7 +198,15 @@ pub fn for_statement(attrs: Items<Attr>, keyword: Place, rest: Read<ForParts>) -
 /// A `while`.
 pub fn while_statement(attrs: Items<Attr>, keyword: Place, rest: Read<Guarded>) -> Read<Stmt>
     requires { rest.node + 1 < 2 ^ 32 }
-    ensures { result ≡ record { tree = record { node = rest.node; place = first_of attrs keyword; kind = StmtKind.While attrs keyword rest.tree.condition rest.tree.body }; end = rest.end; node = rest.node + 1 } }
+    ensures { result ≡ record {
+      tree = record {
+        node = rest.node;
+        place = first_of attrs keyword;
+        kind = StmtKind.While attrs keyword rest.tree.condition rest.tree.body;
+      };
+      end = rest.end;
+      node = rest.node + 1;
+    } }
 {
     let place = first_place(&attrs, keyword);
     let kind = StmtKind::While {

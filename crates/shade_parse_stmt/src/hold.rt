@@ -13,7 +13,8 @@ use shade_parse_simple::read::Read;
 
 /// What was read with the mark behind it.
 pub fn before<T: Drop>(pieces: &[Piece], part: Read<T>, sign: Sign) -> Result<Read<T>, Fault>
-    ensures mark { MatchResult result (λ r. (p : PlaceOf) × (slice_get (lexemes pieces.now) part.end ≡ Some (Mark sign p))) (λ f. (p : PlaceOf) → ¬ (slice_get (lexemes pieces.now) part.end ≡ Some (Mark sign p))) }
+    ensures mark { MatchResult result (λ r. (p : PlaceOf) × (slice_get (lexemes pieces.now) part.end ≡ Some (Mark sign p)))
+        (λ f. (p : PlaceOf) → ¬ (slice_get (lexemes pieces.now) part.end ≡ Some (Mark sign p))) }
     ensures fault { MatchResult result (λ r. r.tree ≡ part.tree) (λ f. f ≡ Fault.Unexpected part.end) }
     ensures end { IfOk result (λ r. r.end ≡ part.end + 1) }
     ensures node { IfOk result (λ r. r.node ≡ part.node) }

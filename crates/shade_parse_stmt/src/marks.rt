@@ -5,11 +5,12 @@ ghost use Rattle.shade_base.specs.declared.place.Place.{Place as PlaceOf};
 ghost use Rattle.shade_ast.specs.Lexemes.{Key, Mark};
 ghost use Rattle.shade_cursor.specs.Operators.{found};
 ghost use Rattle.shade_cursor.specs.Shown.{lexemes};
-ghost use Rattle.shade_parse_stmt.specs.Trees.{jump_of, kind_of, holds, is_closing, is_selected, is_compound, is_clause};
+ghost use Rattle.shade_parse_stmt.specs.Trees.{jump_by, jump_of, kind_of, holds, closing_sign, closing_keyword, is_closing, selected_sign, is_selected};
+ghost use Rattle.shade_parse_stmt.specs.Trees.{compound_sign, compound_keyword, is_compound, clause_keyword, is_clause};
 
 use shade_ast::{Keyword, Sign, StmtKind};
 use shade_base::Place;
-use shade_cursor::piece::{Piece, key_at, mark_at};
+use shade_cursor::piece::{Piece, key_at, keyword_at, mark_at};
 
 /// Whether a mark stands there.
 pub fn is_mark(pieces: &[Piece], at: usize, sign: Sign) -> bool
@@ -22,13 +23,45 @@ pub fn is_mark(pieces: &[Piece], at: usize, sign: Sign) -> bool
     true
 }
 
+/// Whether the mark may follow the statements of a block.
+fn closing_sign(sign: Sign) -> bool
+    ensures { result ≡ closing_sign sign }
+{
+    match sign {
+        Sign::CloseBrace => true,
+        _ => false,
+    }
+}
+
+/// Whether the keyword may follow the statements of a `loop`.
+fn closing_keyword(keyword: Keyword) -> bool
+    ensures { result ≡ closing_keyword keyword }
+{
+    match keyword {
+        Keyword::Continuing => true,
+        _ => false,
+    }
+}
+
 /// Whether what stands there may follow the statements of a block or of a `loop`.
 pub fn closes(pieces: &[Piece], at: usize) -> bool
     ensures value { result ≡ holds is_closing (slice_get (lexemes pieces.now) at) }
 {
     match pieces.get(at) {
-        Some(Piece::Mark(Sign::CloseBrace, _)) => true,
-        Some(Piece::Key(Keyword::Continuing, _)) => true,
+        Some(Piece::Mark(sign, _)) => closing_sign(*sign),
+        Some(Piece::Key(keyword, _)) => closing_keyword(*keyword),
+        _ => false,
+    }
+}
+
+/// Whether the mark may follow the selectors of a `case`.
+fn selected_sign(sign: Sign) -> bool
+    ensures { result ≡ selected_sign sign }
+{
+    match sign {
+        Sign::Colon => true,
+        Sign::At => true,
+        Sign::OpenBrace => true,
         _ => false,
     }
 }
@@ -38,9 +71,32 @@ pub fn ends_selectors(pieces: &[Piece], at: usize) -> bool
     ensures value { result ≡ holds is_selected (slice_get (lexemes pieces.now) at) }
 {
     match pieces.get(at) {
-        Some(Piece::Mark(Sign::Colon, _)) => true,
-        Some(Piece::Mark(Sign::At, _)) => true,
-        Some(Piece::Mark(Sign::OpenBrace, _)) => true,
+        Some(Piece::Mark(sign, _)) => selected_sign(*sign),
+        _ => false,
+    }
+}
+
+/// Whether a statement which attributes may stand before may begin with the mark.
+fn compound_sign(sign: Sign) -> bool
+    ensures { result ≡ compound_sign sign }
+{
+    match sign {
+        Sign::At => true,
+        Sign::OpenBrace => true,
+        _ => false,
+    }
+}
+
+/// Whether a statement which attributes may stand before may begin with the keyword.
+fn compound_keyword(keyword: Keyword) -> bool
+    ensures { result ≡ compound_keyword keyword }
+{
+    match keyword {
+        Keyword::If => true,
+        Keyword::Switch => true,
+        Keyword::Loop => true,
+        Keyword::For => true,
+        Keyword::While => true,
         _ => false,
     }
 }
@@ -50,13 +106,19 @@ pub fn begins_compound(pieces: &[Piece], at: usize) -> bool
     ensures value { result ≡ holds is_compound (slice_get (lexemes pieces.now) at) }
 {
     match pieces.get(at) {
-        Some(Piece::Mark(Sign::At, _)) => true,
-        Some(Piece::Mark(Sign::OpenBrace, _)) => true,
-        Some(Piece::Key(Keyword::If, _)) => true,
-        Some(Piece::Key(Keyword::Switch, _)) => true,
-        Some(Piece::Key(Keyword::Loop, _)) => true,
-        Some(Piece::Key(Keyword::For, _)) => true,
-        Some(Piece::Key(Keyword::While, _)) => true,
+        Some(Piece::Mark(sign, _)) => compound_sign(*sign),
+        Some(Piece::Key(keyword, _)) => compound_keyword(*keyword),
+        _ => false,
+    }
+}
+
+/// Whether a clause may begin with the keyword.
+fn clause_keyword(keyword: Keyword) -> bool
+    ensures { result ≡ clause_keyword keyword }
+{
+    match keyword {
+        Keyword::Case => true,
+        Keyword::Default => true,
         _ => false,
     }
 }
@@ -66,8 +128,7 @@ pub fn begins_clause(pieces: &[Piece], at: usize) -> bool
     ensures value { result ≡ holds is_clause (slice_get (lexemes pieces.now) at) }
 {
     match pieces.get(at) {
-        Some(Piece::Key(Keyword::Case, _)) => true,
-        Some(Piece::Key(Keyword::Default, _)) => true,
+        Some(Piece::Key(keyword, _)) => clause_keyword(*keyword),
         _ => false,
     }
 }
@@ -80,17 +141,26 @@ pub enum Jump {
     Discard,
 }
 
+/// The statement that is this keyword alone, if one is.
+fn jump_by(keyword: Keyword) -> Option<Jump>
+    ensures { result ≡ jump_by keyword }
+{
+    match keyword {
+        Keyword::Break => Some(Jump::Break),
+        Keyword::Continue => Some(Jump::Continue),
+        Keyword::Discard => Some(Jump::Discard),
+        _ => None,
+    }
+}
+
 /// The statement of one keyword that stands there, and its place.
 pub fn jump_at(pieces: &[Piece], at: usize) -> Option<(Jump, Place)>
     ensures value { result ≡ found jump_of (slice_get (lexemes pieces.now) at) }
     ensures within { OnSome result (at < length pieces.now) }
 {
-    match pieces.get(at) {
-        Some(Piece::Key(Keyword::Break, place)) => Some((Jump::Break, *place)),
-        Some(Piece::Key(Keyword::Continue, place)) => Some((Jump::Continue, *place)),
-        Some(Piece::Key(Keyword::Discard, place)) => Some((Jump::Discard, *place)),
-        _ => None,
-    }
+    let (keyword, place) = keyword_at(pieces, at)?;
+    let jump = jump_by(keyword)?;
+    Some((jump, place))
 }
 
 /// What such a statement is.
@@ -107,7 +177,9 @@ pub fn jump_kind(jump: Jump) -> StmtKind
 /// The places of `break` and `if`, if both stand there.
 pub fn break_if_at(pieces: &[Piece], at: usize) -> Option<(Place, Place)>
     requires { at ≤ length pieces.now }
-    ensures value { MatchOption result ((p q : PlaceOf) → slice_get (lexemes pieces.now) at ≡ Some (Key Keyword.Break p) → ¬ (slice_get (lexemes pieces.now) (at + 1) ≡ Some (Key Keyword.If q))) (λ k. (slice_get (lexemes pieces.now) at ≡ Some (Key Keyword.Break k.0)) × (slice_get (lexemes pieces.now) (at + 1) ≡ Some (Key Keyword.If k.1))) }
+    ensures value { MatchOption result
+        ((p q : PlaceOf) → slice_get (lexemes pieces.now) at ≡ Some (Key Keyword.Break p) → ¬ (slice_get (lexemes pieces.now) (at + 1) ≡ Some (Key Keyword.If q)))
+        (λ k. (slice_get (lexemes pieces.now) at ≡ Some (Key Keyword.Break k.0)) × (slice_get (lexemes pieces.now) (at + 1) ≡ Some (Key Keyword.If k.1))) }
     ensures within { OnSome result (at + 1 < length pieces.now) }
 {
     let break_keyword = key_at(pieces, at, Keyword::Break)?;

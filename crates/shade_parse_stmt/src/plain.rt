@@ -33,7 +33,8 @@ pub fn value_until(
     requires within { from ≤ length pieces.now }
     requires node { node + length pieces.now < 2 ^ 32 + from }
     requires names { length names.old + length pieces.now < 2 ^ 32 + from }
-    ensures tree { MatchResult result (λ r. ReadsOfBy value_seen UntilValue Anything (lexemes pieces.now) names.new from node r) (λ f. FaultsBy UntilValue Anything (lexemes pieces.now) names.old names.new from f) }
+    ensures tree { MatchResult result (λ r. ReadsOfBy value_seen UntilValue Anything (lexemes pieces.now) names.new from node r)
+        (λ f. FaultsBy UntilValue Anything (lexemes pieces.now) names.old names.new from f) }
     ensures grows { Grows names.old names.new }
     ensures further { IfOk result (λ r. from < r.end) }
     ensures within { IfOk result (λ r. r.end ≤ length pieces.now) }
@@ -69,7 +70,8 @@ pub fn value_end(
     requires within { from ≤ length pieces.now }
     requires node { node + length pieces.now < 2 ^ 32 + from }
     requires names { length names.old + length pieces.now < 2 ^ 32 + from }
-    ensures tree { MatchResult result (λ r. ReadsOfBy expr_seen ValueEnd Anything (lexemes pieces.now) names.new from node r) (λ f. FaultsBy ValueEnd Anything (lexemes pieces.now) names.old names.new from f) }
+    ensures tree { MatchResult result (λ r. ReadsOfBy expr_seen ValueEnd Anything (lexemes pieces.now) names.new from node r)
+        (λ f. FaultsBy ValueEnd Anything (lexemes pieces.now) names.old names.new from f) }
     ensures grows { Grows names.old names.new }
     ensures further { IfOk result (λ r. from < r.end) }
     ensures within { IfOk result (λ r. r.end ≤ length pieces.now) }
@@ -98,7 +100,8 @@ pub fn simple_until(
     requires within { from ≤ length pieces.now }
     requires node { node + length pieces.now < 2 ^ 32 + from }
     requires names { length names.old + length pieces.now < 2 ^ 32 + from }
-    ensures tree { MatchResult result (λ r. ReadsOfBy maybe_simple_seen UntilSimple Anything (lexemes pieces.now) names.new from node r) (λ f. FaultsBy UntilSimple Anything (lexemes pieces.now) names.old names.new from f) }
+    ensures tree { MatchResult result (λ r. ReadsOfBy maybe_simple_seen UntilSimple Anything (lexemes pieces.now) names.new from node r)
+        (λ f. FaultsBy UntilSimple Anything (lexemes pieces.now) names.old names.new from f) }
     ensures grows { Grows names.old names.new }
     ensures further { IfOk result (λ r. from < r.end) }
     ensures within { IfOk result (λ r. r.end ≤ length pieces.now) }
@@ -132,7 +135,8 @@ pub fn update_until(
     requires within { from ≤ length pieces.now }
     requires node { node + length pieces.now < 2 ^ 32 + from }
     requires names { length names.old + length pieces.now < 2 ^ 32 + from }
-    ensures tree { MatchResult result (λ r. ReadsOfBy maybe_update_seen UntilUpdate Anything (lexemes pieces.now) names.new from node r) (λ f. FaultsBy UntilUpdate Anything (lexemes pieces.now) names.old names.new from f) }
+    ensures tree { MatchResult result (λ r. ReadsOfBy maybe_update_seen UntilUpdate Anything (lexemes pieces.now) names.new from node r)
+        (λ f. FaultsBy UntilUpdate Anything (lexemes pieces.now) names.old names.new from f) }
     ensures grows { Grows names.old names.new }
     ensures further { IfOk result (λ r. from < r.end) }
     ensures within { IfOk result (λ r. r.end ≤ length pieces.now) }
@@ -166,7 +170,8 @@ pub fn leave(
     requires within { from ≤ length pieces.now }
     requires node { node + length pieces.now < 2 ^ 32 + from }
     requires names { length names.old + length pieces.now < 2 ^ 32 + from }
-    ensures tree { MatchResult result (λ r. ReadsOfBy leave_seen Leaves Anything (lexemes pieces.now) names.new from node r) (λ f. FaultsBy Leaves Anything (lexemes pieces.now) names.old names.new from f) }
+    ensures tree { MatchResult result (λ r. ReadsOfBy leave_seen Leaves Anything (lexemes pieces.now) names.new from node r)
+        (λ f. FaultsBy Leaves Anything (lexemes pieces.now) names.old names.new from f) }
     ensures grows { Grows names.old names.new }
     ensures further { IfOk result (λ r. from < r.end) }
     ensures within { IfOk result (λ r. r.end ≤ length pieces.now) }
@@ -198,7 +203,8 @@ fn simple_end(
     requires within { from ≤ length pieces.now }
     requires node { node + length pieces.now < 2 ^ 32 + from }
     requires names { length names.old + length pieces.now < 2 ^ 32 + from }
-    ensures tree { MatchResult result (λ r. ReadsOfBy stmt_seen SimpleEnd Anything (lexemes pieces.now) names.new from node r) (λ f. FaultsBy SimpleEnd Anything (lexemes pieces.now) names.old names.new from f) }
+    ensures tree { MatchResult result (λ r. ReadsOfBy stmt_seen SimpleEnd Anything (lexemes pieces.now) names.new from node r)
+        (λ f. FaultsBy SimpleEnd Anything (lexemes pieces.now) names.old names.new from f) }
     ensures grows { Grows names.old names.new }
     ensures further { IfOk result (λ r. from < r.end) }
     ensures within { IfOk result (λ r. r.end ≤ length pieces.now) }
@@ -222,7 +228,8 @@ pub fn plain(
     requires within { from ≤ length pieces.now }
     requires node { node + length pieces.now < 2 ^ 32 + from }
     requires names { length names.old + length pieces.now < 2 ^ 32 + from }
-    ensures tree { MatchResult result (λ r. ReadsOfBy stmt_seen Plain Anything (lexemes pieces.now) names.new from node r) (λ f. FaultsBy Plain Anything (lexemes pieces.now) names.old names.new from f) }
+    ensures tree { MatchResult result (λ r. ReadsOfBy stmt_seen Plain Anything (lexemes pieces.now) names.new from node r)
+        (λ f. FaultsBy Plain Anything (lexemes pieces.now) names.old names.new from f) }
     ensures grows { Grows names.old names.new }
     ensures further { IfOk result (λ r. from < r.end) }
     ensures within { IfOk result (λ r. r.end ≤ length pieces.now) }
@@ -266,7 +273,8 @@ fn value_behind<K: Drop>(
     requires within { from ≤ length pieces.now }
     requires node { node + length pieces.now < 2 ^ 32 + from }
     requires names { length names.old + length pieces.now < 2 ^ 32 + from }
-    ensures tree { MatchResult result (λ r. ReadsOfBy value_seen UntilValue Anything (lexemes pieces.now) names.new from node r.1) (λ f. FaultsBy UntilValue Anything (lexemes pieces.now) names.old names.new from f) }
+    ensures tree { MatchResult result (λ r. ReadsOfBy value_seen UntilValue Anything (lexemes pieces.now) names.new from node r.1)
+        (λ f. FaultsBy UntilValue Anything (lexemes pieces.now) names.old names.new from f) }
     ensures kept { IfOk result (λ r. r.0 ≡ kept) }
     ensures grows { Grows names.old names.new }
     ensures further { IfOk result (λ r. from < r.1.end) }
@@ -292,7 +300,8 @@ fn update_behind<K: Drop>(
     requires within { from ≤ length pieces.now }
     requires node { node + length pieces.now < 2 ^ 32 + from }
     requires names { length names.old + length pieces.now < 2 ^ 32 + from }
-    ensures tree { MatchResult result (λ r. ReadsOfBy maybe_update_seen UntilUpdate Anything (lexemes pieces.now) names.new from node r.1) (λ f. FaultsBy UntilUpdate Anything (lexemes pieces.now) names.old names.new from f) }
+    ensures tree { MatchResult result (λ r. ReadsOfBy maybe_update_seen UntilUpdate Anything (lexemes pieces.now) names.new from node r.1)
+        (λ f. FaultsBy UntilUpdate Anything (lexemes pieces.now) names.old names.new from f) }
     ensures kept { IfOk result (λ r. r.0 ≡ kept) }
     ensures grows { Grows names.old names.new }
     ensures further { IfOk result (λ r. from < r.1.end) }
@@ -317,7 +326,8 @@ pub fn for_header(
     requires within { from ≤ length pieces.now }
     requires node { node + length pieces.now < 2 ^ 32 + from }
     requires names { length names.old + length pieces.now < 2 ^ 32 + from }
-    ensures tree { MatchResult result (λ r. ReadsOfBy for_head_seen ForHead Anything (lexemes pieces.now) names.new from node r) (λ f. FaultsBy ForHead Anything (lexemes pieces.now) names.old names.new from f) }
+    ensures tree { MatchResult result (λ r. ReadsOfBy for_head_seen ForHead Anything (lexemes pieces.now) names.new from node r)
+        (λ f. FaultsBy ForHead Anything (lexemes pieces.now) names.old names.new from f) }
     ensures grows { Grows names.old names.new }
     ensures further { IfOk result (λ r. from < r.end) }
     ensures within { IfOk result (λ r. r.end ≤ length pieces.now) }
@@ -360,7 +370,8 @@ fn selector(
     requires within { from ≤ length pieces.now }
     requires node { node + length pieces.now < 2 ^ 32 + from }
     requires names { length names.old + length pieces.now < 2 ^ 32 + from }
-    ensures tree { MatchResult result (λ r. ReadsOfBy selector_seen Selects (Above 7) (lexemes pieces.now) names.new from node r) (λ f. FaultsBy Selects (Above 7) (lexemes pieces.now) names.old names.new from f) }
+    ensures tree { MatchResult result (λ r. ReadsOfBy selector_seen Selects (Above 7) (lexemes pieces.now) names.new from node r)
+        (λ f. FaultsBy Selects (Above 7) (lexemes pieces.now) names.old names.new from f) }
     ensures grows { Grows names.old names.new }
     ensures further { IfOk result (λ r. from < r.end) }
     ensures within { IfOk result (λ r. r.end ≤ length pieces.now) }
@@ -393,7 +404,8 @@ pub fn selectors(
     requires within { from ≤ length pieces.now }
     requires node { node + length pieces.now < 2 ^ 32 + from }
     requires names { length names.old + length pieces.now < 2 ^ 32 + from }
-    ensures tree { MatchResult result (λ r. ReadsOfBy selectors_seen (Listed Selects) Selected (lexemes pieces.now) names.new from node r) (λ f. FaultsBy (Listed Selects) Selected (lexemes pieces.now) names.old names.new from f) }
+    ensures tree { MatchResult result (λ r. ReadsOfBy selectors_seen (Listed Selects) Selected (lexemes pieces.now) names.new from node r)
+        (λ f. FaultsBy (Listed Selects) Selected (lexemes pieces.now) names.old names.new from f) }
     ensures grows { Grows names.old names.new }
     ensures further { IfOk result (λ r. from < r.end) }
     ensures within { IfOk result (λ r. r.end ≤ length pieces.now) }

@@ -31,7 +31,8 @@ use shade_parse_simple::read::{Read, refuse};
 use sqlite_items::Items;
 use std::alloc::Global;
 
-/// A block.
+/// Reads the block that begins at a token, with the attributes before its `{`. `Unexpected` has the first token with which none goes on,
+/// `NoMemory` comes where a part of the tree or a name finds no memory.
 #[cycle(statement)]
 pub fn block(
     alloc: Global,
@@ -43,7 +44,8 @@ pub fn block(
     requires within { from ≤ length pieces.now }
     requires node { node + length pieces.now < 2 ^ 32 + from }
     requires names { length names.old + length pieces.now < 2 ^ 32 + from }
-    ensures tree { MatchResult result (λ r. ReadsOf block_seen BlockPhrase 0 (lexemes pieces.now) names.new from node r) (λ f. Faults BlockPhrase 0 (lexemes pieces.now) names.old names.new from f) }
+    ensures tree { MatchResult result (λ r. ReadsOf block_seen BlockPhrase 0 (lexemes pieces.now) names.new from node r)
+        (λ f. Faults BlockPhrase 0 (lexemes pieces.now) names.old names.new from f) }
     ensures grows { Grows names.old names.new }
     ensures further { IfOk result (λ r. from < r.end) }
     ensures within { IfOk result (λ r. r.end ≤ length pieces.now) }
@@ -70,7 +72,8 @@ fn braced(
     requires within { from ≤ length pieces.now }
     requires node { node + length pieces.now < 2 ^ 32 + from }
     requires names { length names.old + length pieces.now < 2 ^ 32 + from }
-    ensures tree { MatchResult result (λ r. ReadsOfBy body_seen Braced Anything (lexemes pieces.now) names.new from node r) (λ f. FaultsBy Braced Anything (lexemes pieces.now) names.old names.new from f) }
+    ensures tree { MatchResult result (λ r. ReadsOfBy body_seen Braced Anything (lexemes pieces.now) names.new from node r)
+        (λ f. FaultsBy Braced Anything (lexemes pieces.now) names.old names.new from f) }
     ensures grows { Grows names.old names.new }
     ensures further { IfOk result (λ r. from < r.end) }
     ensures within { IfOk result (λ r. r.end ≤ length pieces.now) }
@@ -103,7 +106,8 @@ fn statements(
     requires within { from ≤ length pieces.now }
     requires node { node + length pieces.now < 2 ^ 32 + from }
     requires names { length names.old + length pieces.now < 2 ^ 32 + from }
-    ensures tree { MatchResult result (λ r. ReadsOfBy stmts_seen (Many Statement) Closing (lexemes pieces.now) names.new from node r) (λ f. FaultsBy (Many Statement) Closing (lexemes pieces.now) names.old names.new from f) }
+    ensures tree { MatchResult result (λ r. ReadsOfBy stmts_seen (Many Statement) Closing (lexemes pieces.now) names.new from node r)
+        (λ f. FaultsBy (Many Statement) Closing (lexemes pieces.now) names.old names.new from f) }
     ensures grows { Grows names.old names.new }
     ensures further { IfOk result (λ r. from ≤ r.end) }
     ensures within { IfOk result (λ r. r.end ≤ length pieces.now) }
@@ -138,7 +142,8 @@ fn statement(
     requires within { from ≤ length pieces.now }
     requires node { node + length pieces.now < 2 ^ 32 + from }
     requires names { length names.old + length pieces.now < 2 ^ 32 + from }
-    ensures tree { MatchResult result (λ r. ReadsOfBy stmt_seen Statement Free (lexemes pieces.now) names.new from node r) (λ f. FaultsBy Statement Free (lexemes pieces.now) names.old names.new from f) }
+    ensures tree { MatchResult result (λ r. ReadsOfBy stmt_seen Statement Free (lexemes pieces.now) names.new from node r)
+        (λ f. FaultsBy Statement Free (lexemes pieces.now) names.old names.new from f) }
     ensures grows { Grows names.old names.new }
     ensures further { IfOk result (λ r. from < r.end) }
     ensures within { IfOk result (λ r. r.end ≤ length pieces.now) }
@@ -163,7 +168,8 @@ fn compound(
     requires within { from ≤ length pieces.now }
     requires node { node + length pieces.now < 2 ^ 32 + from }
     requires names { length names.old + length pieces.now < 2 ^ 32 + from }
-    ensures tree { MatchResult result (λ r. ReadsOfBy stmt_seen Compound Free (lexemes pieces.now) names.new from node r) (λ f. FaultsBy Compound Free (lexemes pieces.now) names.old names.new from f) }
+    ensures tree { MatchResult result (λ r. ReadsOfBy stmt_seen Compound Free (lexemes pieces.now) names.new from node r)
+        (λ f. FaultsBy Compound Free (lexemes pieces.now) names.old names.new from f) }
     ensures grows { Grows names.old names.new }
     ensures further { IfOk result (λ r. from < r.end) }
     ensures within { IfOk result (λ r. r.end ≤ length pieces.now) }
@@ -215,7 +221,8 @@ fn guarded(
     requires within { from ≤ length pieces.now }
     requires node { node + length pieces.now < 2 ^ 32 + from }
     requires names { length names.old + length pieces.now < 2 ^ 32 + from }
-    ensures tree { MatchResult result (λ r. ReadsOfBy guarded_seen Guards (Above 0) (lexemes pieces.now) names.new from node r) (λ f. FaultsBy Guards (Above 0) (lexemes pieces.now) names.old names.new from f) }
+    ensures tree { MatchResult result (λ r. ReadsOfBy guarded_seen Guards (Above 0) (lexemes pieces.now) names.new from node r)
+        (λ f. FaultsBy Guards (Above 0) (lexemes pieces.now) names.old names.new from f) }
     ensures grows { Grows names.old names.new }
     ensures further { IfOk result (λ r. from < r.end) }
     ensures within { IfOk result (λ r. r.end ≤ length pieces.now) }
@@ -249,7 +256,8 @@ fn branches(
     requires within { from ≤ length pieces.now }
     requires node { node + length pieces.now < 2 ^ 32 + from }
     requires names { length names.old + length pieces.now < 2 ^ 32 + from }
-    ensures tree { MatchResult result (λ r. ReadsOfBy branches_seen AllArms Free (lexemes pieces.now) names.new from node r) (λ f. FaultsBy AllArms Free (lexemes pieces.now) names.old names.new from f) }
+    ensures tree { MatchResult result (λ r. ReadsOfBy branches_seen AllArms Free (lexemes pieces.now) names.new from node r)
+        (λ f. FaultsBy AllArms Free (lexemes pieces.now) names.old names.new from f) }
     ensures grows { Grows names.old names.new }
     ensures further { IfOk result (λ r. from ≤ r.end) }
     ensures within { IfOk result (λ r. r.end ≤ length pieces.now) }
@@ -296,7 +304,8 @@ fn for_parts(
     requires within { from ≤ length pieces.now }
     requires node { node + length pieces.now < 2 ^ 32 + from }
     requires names { length names.old + length pieces.now < 2 ^ 32 + from }
-    ensures tree { MatchResult result (λ r. ReadsOfBy for_seen ForRest (Above 0) (lexemes pieces.now) names.new from node r) (λ f. FaultsBy ForRest (Above 0) (lexemes pieces.now) names.old names.new from f) }
+    ensures tree { MatchResult result (λ r. ReadsOfBy for_seen ForRest (Above 0) (lexemes pieces.now) names.new from node r)
+        (λ f. FaultsBy ForRest (Above 0) (lexemes pieces.now) names.old names.new from f) }
     ensures grows { Grows names.old names.new }
     ensures further { IfOk result (λ r. from < r.end) }
     ensures within { IfOk result (λ r. r.end ≤ length pieces.now) }
@@ -328,7 +337,8 @@ fn switch_parts(
     requires within { from ≤ length pieces.now }
     requires node { node + length pieces.now < 2 ^ 32 + from }
     requires names { length names.old + length pieces.now < 2 ^ 32 + from }
-    ensures tree { MatchResult result (λ r. ReadsOfBy switch_seen SwitchRest Anything (lexemes pieces.now) names.new from node r) (λ f. FaultsBy SwitchRest Anything (lexemes pieces.now) names.old names.new from f) }
+    ensures tree { MatchResult result (λ r. ReadsOfBy switch_seen SwitchRest Anything (lexemes pieces.now) names.new from node r)
+        (λ f. FaultsBy SwitchRest Anything (lexemes pieces.now) names.old names.new from f) }
     ensures grows { Grows names.old names.new }
     ensures further { IfOk result (λ r. from < r.end) }
     ensures within { IfOk result (λ r. r.end ≤ length pieces.now) }
@@ -375,7 +385,8 @@ fn clauses(
     requires within { from ≤ length pieces.now }
     requires node { node + length pieces.now < 2 ^ 32 + from }
     requires names { length names.old + length pieces.now < 2 ^ 32 + from }
-    ensures tree { MatchResult result (λ r. ReadsOfBy clauses_seen (Many OneClause) (Above 9) (lexemes pieces.now) names.new from node r) (λ f. FaultsBy (Many OneClause) (Above 9) (lexemes pieces.now) names.old names.new from f) }
+    ensures tree { MatchResult result (λ r. ReadsOfBy clauses_seen (Many OneClause) (Above 9) (lexemes pieces.now) names.new from node r)
+        (λ f. FaultsBy (Many OneClause) (Above 9) (lexemes pieces.now) names.old names.new from f) }
     ensures grows { Grows names.old names.new }
     ensures further { IfOk result (λ r. from ≤ r.end) }
     ensures within { IfOk result (λ r. r.end ≤ length pieces.now) }
@@ -410,7 +421,8 @@ fn clause(
     requires within { from ≤ length pieces.now }
     requires node { node + length pieces.now < 2 ^ 32 + from }
     requires names { length names.old + length pieces.now < 2 ^ 32 + from }
-    ensures tree { MatchResult result (λ r. ReadsOfBy clause_seen OneClause (Above 0) (lexemes pieces.now) names.new from node r) (λ f. FaultsBy OneClause (Above 0) (lexemes pieces.now) names.old names.new from f) }
+    ensures tree { MatchResult result (λ r. ReadsOfBy clause_seen OneClause (Above 0) (lexemes pieces.now) names.new from node r)
+        (λ f. FaultsBy OneClause (Above 0) (lexemes pieces.now) names.old names.new from f) }
     ensures grows { Grows names.old names.new }
     ensures further { IfOk result (λ r. from < r.end) }
     ensures within { IfOk result (λ r. r.end ≤ length pieces.now) }
@@ -449,7 +461,8 @@ fn clause_body(
     requires within { from ≤ length pieces.now }
     requires node { node + length pieces.now < 2 ^ 32 + from }
     requires names { length names.old + length pieces.now < 2 ^ 32 + from }
-    ensures tree { MatchResult result (λ r. ReadsOfBy clause_body_seen ColonBlock (Above 0) (lexemes pieces.now) names.new from node r) (λ f. FaultsBy ColonBlock (Above 0) (lexemes pieces.now) names.old names.new from f) }
+    ensures tree { MatchResult result (λ r. ReadsOfBy clause_body_seen ColonBlock (Above 0) (lexemes pieces.now) names.new from node r)
+        (λ f. FaultsBy ColonBlock (Above 0) (lexemes pieces.now) names.old names.new from f) }
     ensures grows { Grows names.old names.new }
     ensures further { IfOk result (λ r. from < r.end) }
     ensures within { IfOk result (λ r. r.end ≤ length pieces.now) }
@@ -490,7 +503,8 @@ fn loop_parts(
     requires within { from ≤ length pieces.now }
     requires node { node + length pieces.now < 2 ^ 32 + from }
     requires names { length names.old + length pieces.now < 2 ^ 32 + from }
-    ensures tree { MatchResult result (λ r. ReadsOfBy loop_seen LoopRest Anything (lexemes pieces.now) names.new from node r) (λ f. FaultsBy LoopRest Anything (lexemes pieces.now) names.old names.new from f) }
+    ensures tree { MatchResult result (λ r. ReadsOfBy loop_seen LoopRest Anything (lexemes pieces.now) names.new from node r)
+        (λ f. FaultsBy LoopRest Anything (lexemes pieces.now) names.old names.new from f) }
     ensures grows { Grows names.old names.new }
     ensures further { IfOk result (λ r. from < r.end) }
     ensures within { IfOk result (λ r. r.end ≤ length pieces.now) }
@@ -528,7 +542,8 @@ fn loop_end(
     requires within { from ≤ length pieces.now }
     requires node { node + length pieces.now < 2 ^ 32 + from }
     requires names { length names.old + length pieces.now < 2 ^ 32 + from }
-    ensures tree { MatchResult result (λ r. ReadsOfBy loop_end_seen LoopEnds Anything (lexemes pieces.now) names.new from node r) (λ f. FaultsBy LoopEnds Anything (lexemes pieces.now) names.old names.new from f) }
+    ensures tree { MatchResult result (λ r. ReadsOfBy loop_end_seen LoopEnds Anything (lexemes pieces.now) names.new from node r)
+        (λ f. FaultsBy LoopEnds Anything (lexemes pieces.now) names.old names.new from f) }
     ensures grows { Grows names.old names.new }
     ensures further { IfOk result (λ r. from < r.end) }
     ensures within { IfOk result (λ r. r.end ≤ length pieces.now) }
@@ -575,7 +590,8 @@ fn continuing(
     requires within { from ≤ length pieces.now }
     requires node { node + length pieces.now < 2 ^ 32 + from }
     requires names { length names.old + length pieces.now < 2 ^ 32 + from }
-    ensures tree { MatchResult result (λ r. ReadsOfBy continuing_seen (ContinuingRest keyword) Anything (lexemes pieces.now) names.new from node r) (λ f. FaultsBy (ContinuingRest keyword) Anything (lexemes pieces.now) names.old names.new from f) }
+    ensures tree { MatchResult result (λ r. ReadsOfBy continuing_seen (ContinuingRest keyword) Anything (lexemes pieces.now) names.new from node r)
+        (λ f. FaultsBy (ContinuingRest keyword) Anything (lexemes pieces.now) names.old names.new from f) }
     ensures grows { Grows names.old names.new }
     ensures further { IfOk result (λ r. from < r.end) }
     ensures within { IfOk result (λ r. r.end ≤ length pieces.now) }
@@ -606,7 +622,8 @@ fn last_body(
     requires within { from ≤ length pieces.now }
     requires node { node + length pieces.now < 2 ^ 32 + from }
     requires names { length names.old + length pieces.now < 2 ^ 32 + from }
-    ensures tree { MatchResult result (λ r. ReadsOfBy last_seen LastStatements Anything (lexemes pieces.now) names.new from node r) (λ f. FaultsBy LastStatements Anything (lexemes pieces.now) names.old names.new from f) }
+    ensures tree { MatchResult result (λ r. ReadsOfBy last_seen LastStatements Anything (lexemes pieces.now) names.new from node r)
+        (λ f. FaultsBy LastStatements Anything (lexemes pieces.now) names.old names.new from f) }
     ensures grows { Grows names.old names.new }
     ensures further { IfOk result (λ r. from < r.end) }
     ensures within { IfOk result (λ r. r.end ≤ length pieces.now) }
