@@ -205,15 +205,44 @@ plain_here : (t : Lexeme) (r : DeclShape) (us w : List Lexeme) → PlainAt t r u
 plain_here t r us w a = record { part = []; others = t ∷ us; phrase = no_more; rest = inr (inr (inr (refl, record { first = t; others = us; split = refl; at = a }))) }
 
 const_there : (b : BindingShape) (p : Place) (ts us w : List Lexeme) → Const b ts us → us ≡ Mark sign.Semicolon p ∷ w → After (Many Attribute) Behind (const_decl b.place b) ts w
-const_there b p ts us w (const c {ts = vs} t v) e = plain_here (Key word.Const b.place) (const_decl b.place b) (Word b.name.text b.name.place ∷ vs) w (record { part = b; others = us; phrase = bound b refl t v; rest = record { part = p; others = w; phrase = record { is = e }; rest = record { same = refl; left = refl } } })
+const_there b p ts us w (const c {ts = vs} t v) e = plain_here (Key word.Const b.place) (const_decl b.place b) (Word b.name.text b.name.place ∷ vs) w
+    (record { part = b; others = us; phrase = bound b refl t v; rest = record { part = p; others = w; phrase = record { is = e }; rest = record { same = refl; left = refl } } })
 
 decl_there : (r : DeclShape) (ts w : List Lexeme) → Declaration r ts w → After (Many Attribute) Behind r ts w
 decl_there r ts w (no_declaration p) = plain_here (Mark sign.Semicolon p) (empty_decl p) w w (record { same = refl; left = refl })
-decl_there r ts w (alias n {e = e} p q x {ts = us} g) = plain_here (Key word.Alias p) (alias_decl p n e) (Word n.text n.place ∷ (Mark sign.Equal q ∷ us)) w (record { part = n; others = Mark sign.Equal q ∷ us; phrase = name n; rest = record { part = q; others = us; phrase = record { is = refl }; rest = record { part = e; others = Mark sign.Semicolon x ∷ w; phrase = g; rest = record { part = x; others = w; phrase = record { is = refl }; rest = record { same = refl; left = refl } } } } })
+decl_there r ts w (alias n {e = e} p q x {ts = us} g) = plain_here (Key word.Alias p) (alias_decl p n e) (Word n.text n.place ∷ (Mark sign.Equal q ∷ us)) w
+    (record {
+      part = n;
+      others = Mark sign.Equal q ∷ us;
+      phrase = name n;
+      rest = record {
+        part = q;
+        others = us;
+        phrase = record { is = refl };
+        rest = record
+            { part = e; others = Mark sign.Semicolon x ∷ w; phrase = g; rest = record { part = x; others = w; phrase = record { is = refl }; rest = record { same = refl; left = refl } } };
+      };
+    })
 decl_there r ts w (constant b p g) = const_there b p ts (Mark sign.Semicolon p ∷ w) w g refl
 decl_there r ts w (assertion {e = e} p q {ts = us} g) = plain_here (Key word.ConstAssert p) (assert_decl p e) us w (record { part = e; others = Mark sign.Semicolon q ∷ w; phrase = g; rest = record { part = q; others = w; phrase = record { is = refl }; rest = record { same = refl; left = refl } } })
-decl_there r ts w (struct n {members = ms} {trailing = t} p q x {ts = us} g) = plain_here (Key word.Struct p) (struct_decl p n ms t x) (Word n.text n.place ∷ (Mark sign.OpenBrace q ∷ us)) w (record { part = n; others = Mark sign.OpenBrace q ∷ us; phrase = name n; rest = record { part = q; others = us; phrase = record { is = refl }; rest = record { part = ((ms, t), x); others = w; phrase = enclosed x g; rest = record { same = refl; left = refl } } } })
-decl_there r ts w (variable ls v p {us = us} g k) = record { part = ls; others = us; phrase = g; rest = inr (inr (inl (record { part = v; others = Mark sign.Semicolon p ∷ w; phrase = k; rest = record { part = p; others = w; phrase = record { is = refl }; rest = record { same = refl; left = refl } } }))) }
+decl_there r ts w (struct n {members = ms} {trailing = t} p q x {ts = us} g) = plain_here (Key word.Struct p) (struct_decl p n ms t x) (Word n.text n.place ∷ (Mark sign.OpenBrace q ∷ us)) w
+    (record {
+      part = n;
+      others = Mark sign.OpenBrace q ∷ us;
+      phrase = name n;
+      rest = record
+          { part = q; others = us; phrase = record { is = refl }; rest = record { part = ((ms, t), x); others = w; phrase = enclosed x g; rest = record { same = refl; left = refl } } };
+    })
+decl_there r ts w (variable ls v p {us = us} g k) = record {
+  part = ls;
+  others = us;
+  phrase = g;
+  rest = inr
+      (inr
+      (inl
+      (record
+      { part = v; others = Mark sign.Semicolon p ∷ w; phrase = k; rest = record { part = p; others = w; phrase = record { is = refl }; rest = record { same = refl; left = refl } } })));
+}
 decl_there r ts w (overridable ls n {ty = t} {value = v} p q {us = us} {vs = vs} g a b) =
     record { part = ls; others = Key word.Override p ∷ (Word n.text n.place ∷ us); phrase = g; rest = inr (inl (record { part = p; others = Word n.text n.place ∷ us; phrase = record { is = refl }; rest = record { part = overridden n t v; others = w; phrase = record { part = n; others = us; phrase = name n; rest = record { part = t; others = vs; phrase = a; rest = record { part = v; others = Mark sign.Semicolon q ∷ w; phrase = b; rest = record { part = q; others = w; phrase = record { is = refl }; rest = record { same = refl; left = refl } } } } }; rest = record { same = refl; left = refl } } })) }
 decl_there r ts w (function ls n {params = ps} {trailing = t} {r = z} {b = b} p q o {us = us} {vs = vs} {ws = xs} g a k l) =
@@ -223,7 +252,9 @@ many_nil : (ls : List AttrShape) (ts us : List Lexeme) → ls ≡ [] → Many At
 many_nil ls ts us e no_more = refl
 many_nil ls ts us e (more g l) = absurd (let bad = e in cc)
 
-fn_by : (ls : List AttrShape) (p : Place) (n : NameShape) (q : Place) (l : (List MemberShape × Bool) × Place) (r : Option ResultShape) (b : BlockShape) (ts us vs xs w : List Lexeme) → Many Attribute ls ts (Key word.Fn p ∷ (Word n.text n.place ∷ (Mark sign.Open q ∷ us))) → Enclosed (MaybeListed MemberOf) sign.Close l us vs → Maybe ResultOf r vs xs → Block b xs w → Declaration (fn_shape ls p (callable n l r b)) ts w
+fn_by : (ls : List AttrShape) (p : Place) (n : NameShape) (q : Place) (l : (List MemberShape × Bool) × Place) (r : Option ResultShape) (b : BlockShape) (ts us vs xs w : List Lexeme) →
+    Many Attribute ls ts (Key word.Fn p ∷ (Word n.text n.place ∷ (Mark sign.Open q ∷ us))) → Enclosed (MaybeListed MemberOf) sign.Close l us vs → Maybe ResultOf r vs xs → Block b xs w →
+    Declaration (fn_shape ls p (callable n l r b)) ts w
 fn_by ls p n q l r b ts us vs xs w g (enclosed o a) k z = function ls n p q o g a k z
 
 decl_by : (ls : List AttrShape) (r : DeclShape) (ts us w : List Lexeme) → Many Attribute ls ts us → Behind ls r us w → Declaration r ts w
@@ -405,7 +436,13 @@ decl_first r ts w g =
     ]
 
 pub some_members : Closes (Enclosed (Listed MemberOf) sign.CloseBrace)
-some_members = record { tree = ((member_of [] some_name (named some_place []) ∷ [], false), some_place); more = Word some_name.text some_name.place ∷ (Mark sign.Colon some_place ∷ (Word [] some_place ∷ (Mark sign.CloseBrace some_place ∷ []))); closed = λ w. enclosed some_place (last (a_member [] some_name no_more (of_type some_place (plain_type some_place [])))) }
+some_members = record {
+  tree = ((member_of [] some_name (named some_place []) ∷ [], false), some_place);
+  more = Word some_name.text some_name.place ∷
+      (Mark sign.Colon some_place ∷ (Word [] some_place ∷ (Mark sign.CloseBrace some_place ∷ [])));
+  closed = λ w. enclosed some_place
+      (last (a_member [] some_name no_more (of_type some_place (plain_type some_place []))));
+}
 
 -- no declaration begins with the keyword of a directive
 pub decl_no_directive : (t : Lexeme) (r : DeclShape) (us w : List Lexeme) → BeginsDirective t → Declaration r (t ∷ us) w → ⊥

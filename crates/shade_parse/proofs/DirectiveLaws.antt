@@ -28,7 +28,14 @@ RuleRest n r ys w = RuleDot n r ys w ⊎ Ends (plain_rule n) r ys w
 
 rule_there : (r : RuleShape) (ts w : List Lexeme) → RuleOf r ts w → After Name RuleRest r ts w
 rule_there r ts w (rule n) = record { part = n; others = w; phrase = name n; rest = inr (record { same = refl; left = refl }) }
-rule_there r ts w (dotted_rule m p n) = record { part = m; others = Mark sign.Dot p ∷ (Word n.text n.place ∷ w); phrase = name m; rest = inl (record { part = p; others = Word n.text n.place ∷ w; phrase = record { is = refl }; rest = record { part = n; others = w; phrase = name n; rest = record { same = refl; left = refl } } }) }
+rule_there r ts w (dotted_rule m p n) = record {
+  part = m;
+  others = Mark sign.Dot p ∷ (Word n.text n.place ∷ w);
+  phrase = name m;
+  rest = inl
+      (record
+      { part = p; others = Word n.text n.place ∷ w; phrase = record { is = refl }; rest = record { part = n; others = w; phrase = name n; rest = record { same = refl; left = refl } } });
+}
 
 rule_back : (r : RuleShape) (ts w : List Lexeme) → After Name RuleRest r ts w → RuleOf r ts w
 rule_back r ts w a =
@@ -163,7 +170,8 @@ directive_there r ts w (diagnostic n {r = s} {trailing = t} p q o k x {ts = us} 
 directive_there r ts w (requires_names {ns = ns} {trailing = t} p q {ts = us} g) = record { first = Key word.Requires p; others = us; split = refl; at = record { part = ((ns, t), q); others = w; phrase = enclosed q g; rest = record { same = refl; left = refl } } }
 directive_there r ts w (enables_names {ns = ns} {trailing = t} p q {ts = us} g) = record { first = Key word.Enable p; others = us; split = refl; at = record { part = ((ns, t), q); others = w; phrase = enclosed q g; rest = record { same = refl; left = refl } } }
 
-diagnostic_by : (p q o : Place) (n : NameShape) (s : RuleShape) (t : Bool) (us vs xs w : List Lexeme) (x : Place) → RuleOf s us vs → Ending sign.Close t vs xs → xs ≡ Mark sign.Semicolon x ∷ w → DirectiveOf (diagnostic_directive p n s t) (Key word.Diagnostic p ∷ (Mark sign.Open q ∷ (Word n.text n.place ∷ (Mark sign.Comma o ∷ us)))) w
+diagnostic_by : (p q o : Place) (n : NameShape) (s : RuleShape) (t : Bool) (us vs xs w : List Lexeme) (x : Place) → RuleOf s us vs → Ending sign.Close t vs xs →
+    xs ≡ Mark sign.Semicolon x ∷ w → DirectiveOf (diagnostic_directive p n s t) (Key word.Diagnostic p ∷ (Mark sign.Open q ∷ (Word n.text n.place ∷ (Mark sign.Comma o ∷ us)))) w
 diagnostic_by p q o n s t us vs xs w x g (ending k m) e = diagnostic n p q o k x g (subst (λ l. MaybeMark sign.Comma t vs (Mark sign.Close k ∷ l)) e m)
 
 requires_by : (p : Place) (l : (List NameShape × Bool) × Place) (us w : List Lexeme) → Enclosed (Listed Name) sign.Semicolon l us w → DirectiveOf (requires_directive p l.0.0 l.0.1) (Key word.Requires p ∷ us) w
@@ -190,7 +198,9 @@ directive_back : (r : DirectiveShape) (ts w : List Lexeme) → Headed DirectiveA
 directive_back r ts w k = subst (λ l. DirectiveOf r l w) (sym k.split) (directive_by k.first r k.others w k.at)
 
 -- a token that no directive begins with
-pub no_directive : (tokens : List Lexeme) (at : ℕ) → ((p : Place) → slice_get tokens at ≡ Some (Key word.Diagnostic p) → ⊥) → ((p : Place) → slice_get tokens at ≡ Some (Key word.Requires p) → ⊥) → ((p : Place) → slice_get tokens at ≡ Some (Key word.Enable p) → ⊥) → (r : DirectiveShape) (ys w : List Lexeme) → DirectiveOf r ys w → Near ys (drop at tokens) → ⊥
+pub no_directive : (tokens : List Lexeme) (at : ℕ) → ((p : Place) → slice_get tokens at ≡ Some (Key word.Diagnostic p) → ⊥) →
+    ((p : Place) → slice_get tokens at ≡ Some (Key word.Requires p) → ⊥) → ((p : Place) → slice_get tokens at ≡ Some (Key word.Enable p) → ⊥) → (r : DirectiveShape) (ys w : List Lexeme) →
+    DirectiveOf r ys w → Near ys (drop at tokens) → ⊥
 no_directive tokens at a b c r ys w g near = let k = directive_there r ys w g in by k.first r k.others w (near_get tokens at k.first k.others (subst (λ x. Near x (drop at tokens)) k.split near)) k.at
   where
     by : (t : Lexeme) (r : DirectiveShape) (us w : List Lexeme) → slice_get tokens at ≡ Some t → DirectiveAt t r us w → ⊥

@@ -38,14 +38,19 @@ module _ {tokens : List Lexeme} {names : List (List ℕ)} {from node : ℕ} (h :
   pub plain_tree : {n : Read Named} → ReadsOf named_seen Name 0 tokens names from node n → ((p : Place) → slice_get tokens n.end ≡ Some (Mark sign.Dot p) → ⊥) → ReadsOf rule_seen RuleOf 2 tokens names from node (record { tree = rules.Plain n.tree; end = n.end; node = n.node })
   plain_tree x never = record { reads = rule_plain h x.reads never; known = x.known; nodes = x.nodes }
 
-  pub scoped_tree : {n m : Read Named} {p : Place} → ReadsOf named_seen Name 0 tokens names from node n → slice_get tokens n.end ≡ Some (Mark sign.Dot p) → ReadsOf named_seen Name 0 tokens names (n.end + 1) n.node m → ReadsOf rule_seen RuleOf 2 tokens names from node (record { tree = rules.Scoped n.tree p m.tree; end = m.end; node = m.node })
+  pub scoped_tree : {n m : Read Named} {p : Place} → ReadsOf named_seen Name 0 tokens names from node n → slice_get tokens n.end ≡ Some (Mark sign.Dot p) →
+      ReadsOf named_seen Name 0 tokens names (n.end + 1) n.node m →
+      ReadsOf rule_seen RuleOf 2 tokens names from node (record { tree = rules.Scoped n.tree p m.tree; end = m.end; node = m.node })
   scoped_tree {n = n} {m = m} {p = p} x is y = record {
     reads = rule_scoped h x.reads p is y.reads;
     known = (let a = x.known in let b = y.known in omega arith);
     nodes = count_join (named_nodes n.tree) (named_nodes m.tree) node n.node m.node x.nodes y.nodes;
   }
 
-  pub diagnostic_tree : {p q o x : Place} {n : Read Named} {r : Read Rule} {t : Bool} {end : ℕ} → slice_get tokens from ≡ Some (Mark sign.Open q) → ReadsOf named_seen Name 0 tokens names (from + 1) node n → slice_get tokens n.end ≡ Some (Mark sign.Comma o) → ReadsOf rule_seen RuleOf 2 tokens names (n.end + 1) n.node r → Reads (Ending sign.Close) 0 tokens r.end t end → slice_get tokens end ≡ Some (Mark sign.Semicolon x) → ReadsOf (directive_kind_seen p) (DiagnosticRest p) 0 tokens names from node (record { tree = directive.Diagnostic n.tree r.tree t; end = end + 1; node = r.node })
+  pub diagnostic_tree : {p q o x : Place} {n : Read Named} {r : Read Rule} {t : Bool} {end : ℕ} → slice_get tokens from ≡ Some (Mark sign.Open q) →
+      ReadsOf named_seen Name 0 tokens names (from + 1) node n → slice_get tokens n.end ≡ Some (Mark sign.Comma o) → ReadsOf rule_seen RuleOf 2 tokens names (n.end + 1) n.node r →
+      Reads (Ending sign.Close) 0 tokens r.end t end → slice_get tokens end ≡ Some (Mark sign.Semicolon x) →
+      ReadsOf (directive_kind_seen p) (DiagnosticRest p) 0 tokens names from node (record { tree = directive.Diagnostic n.tree r.tree t; end = end + 1; node = r.node })
   diagnostic_tree {p = p} {q = q} {o = o} {x = x} {n = n} {r = r} opens a comma b c ends = record {
     reads = diagnostic_reads p h q opens a.reads o comma b.reads c x ends;
     known = (let d = a.known in let e = b.known in omega arith);
@@ -53,15 +58,19 @@ module _ {tokens : List Lexeme} {names : List (List ℕ)} {from node : ℕ} (h :
   }
 
   -- a directive behind its keyword, with its number
-  pub directive_tree : {p : Place} (t : Lexeme) {k : Read DirectiveKind} → slice_get tokens from ≡ Some t → ReadsOf (directive_kind_seen p) (DirectiveAt t) 0 tokens names (from + 1) node k → ReadsOf directive_seen DirectiveOf 0 tokens names from node (record { tree = record { node = k.node; place = p; kind = k.tree }; end = k.end; node = k.node + 1 })
+  pub directive_tree : {p : Place} (t : Lexeme) {k : Read DirectiveKind} → slice_get tokens from ≡ Some t → ReadsOf (directive_kind_seen p) (DirectiveAt t) 0 tokens names (from + 1) node k →
+      ReadsOf directive_seen DirectiveOf 0 tokens names from node (record { tree = record { node = k.node; place = p; kind = k.tree }; end = k.end; node = k.node + 1 })
   directive_tree t {k = k} is x = record {
     reads = directive_reads h t is x.reads;
     known = x.known;
     nodes = count_join (directive_kind_nodes k.tree) (k.node ∷ []) node k.node (k.node + 1) x.nodes (refl, refl);
   }
 
-  pub requires_tree : {p : Place} {l : Read (ItemList Named)} → ReadsOf (enclosed_seen named_seen) (Enclosed (Listed Name) sign.Semicolon) 0 tokens names from node l → ReadsOf (directive_kind_seen p) (DirectiveAt (Key word.Requires p)) 0 tokens names from node (record { tree = directive.Requires l.tree.items l.tree.trailing; end = l.end; node = l.node })
+  pub requires_tree : {p : Place} {l : Read (ItemList Named)} → ReadsOf (enclosed_seen named_seen) (Enclosed (Listed Name) sign.Semicolon) 0 tokens names from node l →
+      ReadsOf (directive_kind_seen p) (DirectiveAt (Key word.Requires p)) 0 tokens names from node
+      (record { tree = directive.Requires l.tree.items l.tree.trailing; end = l.end; node = l.node })
   requires_tree {p = p} x = record { reads = built_reads (λ l. requires_directive p l.0.0 l.0.1) h x.reads; known = x.known; nodes = x.nodes }
 
-  pub enable_tree : {p : Place} {l : Read (ItemList Named)} → ReadsOf (enclosed_seen named_seen) (Enclosed (Listed Name) sign.Semicolon) 0 tokens names from node l → ReadsOf (directive_kind_seen p) (DirectiveAt (Key word.Enable p)) 0 tokens names from node (record { tree = directive.Enable l.tree.items l.tree.trailing; end = l.end; node = l.node })
+  pub enable_tree : {p : Place} {l : Read (ItemList Named)} → ReadsOf (enclosed_seen named_seen) (Enclosed (Listed Name) sign.Semicolon) 0 tokens names from node l →
+      ReadsOf (directive_kind_seen p) (DirectiveAt (Key word.Enable p)) 0 tokens names from node (record { tree = directive.Enable l.tree.items l.tree.trailing; end = l.end; node = l.node })
   enable_tree {p = p} x = record { reads = built_reads (λ l. enable_directive p l.0.0 l.0.1) h x.reads; known = x.known; nodes = x.nodes }

@@ -33,13 +33,16 @@ module _ {T R : Type 0} {seen : Seen T R} {G : R → List Lexeme → List Lexeme
   list_first {first = first} is h high = turn_first is ([], sym (append-nil first)) (omega arith) high (omega arith) (listed_begin G closer m k.comma_low k.closer_low k.apart k.no_item h)
 
   -- a list without items
-  pub list_none : {names : List (List ℕ)} {from node : ℕ} {items : List T} {p : Place} → items ≡ [] → from ≤ length tokens → slice_get tokens from ≡ Some (Mark closer p) → ReadsOf (enclosed_seen seen) (Enclosed (MaybeListed G) closer) 0 tokens names from node (record { tree = record { items = items; trailing = false; close = p }; end = from + 1; node = node })
+  pub list_none : {names : List (List ℕ)} {from node : ℕ} {items : List T} {p : Place} → items ≡ [] → from ≤ length tokens → slice_get tokens from ≡ Some (Mark closer p) →
+      ReadsOf (enclosed_seen seen) (Enclosed (MaybeListed G) closer) 0 tokens names from node
+      (record { tree = record { items = items; trailing = false; close = p }; end = from + 1; node = node })
   list_none {names = names} {from = from} {node = node} {items = items} {p = p} is h closes =
       subst (λ l. ReadsOf (enclosed_seen seen) (Enclosed (MaybeListed G) closer) 0 tokens names from node (record { tree = record { items = l; trailing = false; close = p }; end = from + 1; node = node })) (sym is)
       (record { reads = maybe_none G closer m k.comma_low k.closer_low k.apart k.no_item h p closes; known = omega arith; nodes = refl })
 
   -- a list with items
-  pub list_some : {names : List (List ℕ)} {from node : ℕ} {r : Read (ItemList T)} → from ≤ length tokens → ((p : Place) → slice_get tokens from ≡ Some (Mark closer p) → ⊥) → ReadsOf (enclosed_seen seen) (Enclosed (Listed G) closer) 0 tokens names from node r → ReadsOf (enclosed_seen seen) (Enclosed (MaybeListed G) closer) 0 tokens names from node r
+  pub list_some : {names : List (List ℕ)} {from node : ℕ} {r : Read (ItemList T)} → from ≤ length tokens → ((p : Place) → slice_get tokens from ≡ Some (Mark closer p) → ⊥) →
+      ReadsOf (enclosed_seen seen) (Enclosed (Listed G) closer) 0 tokens names from node r → ReadsOf (enclosed_seen seen) (Enclosed (MaybeListed G) closer) 0 tokens names from node r
   list_some h never x = record { reads = maybe_reads G closer m k.comma_low k.closer_low k.apart k.no_item h never x.reads; known = x.known; nodes = x.nodes }
 
   module _ {size : ℕ} {first mid : List (List ℕ)} {from start : ℕ} {items : List T} {at node : ℕ} (t : ListTurn seen G closer tokens size first mid from start items at node) where

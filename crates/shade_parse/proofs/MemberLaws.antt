@@ -127,7 +127,19 @@ pub result_opens : Opens (Mark sign.Arrow) ResultOf ResultRest (λ r. r)
 result_opens = record { there = there; back = back }
   where
     there : (r : ResultShape) (ts w : List Lexeme) → ResultOf r ts w → After (Placed (Mark sign.Arrow)) (λ p. After ResultRest (λ b. Ends b)) r ts w
-    there r ts w (result s p {ts = us} {us = vs} g t) = record { part = p; others = us; phrase = record { is = refl }; rest = record { part = r; others = w; phrase = record { part = r.attrs; others = vs; phrase = g; rest = record { part = r.ty; others = w; phrase = t; rest = record { same = refl; left = refl } } }; rest = record { same = refl; left = refl } } }
+    there r ts w (result s p {ts = us} {us = vs} g t) = record {
+      part = p;
+      others = us;
+      phrase = record { is = refl };
+      rest = record {
+        part = r;
+        others = w;
+        phrase = record
+            { part = r.attrs; others = vs; phrase = g; rest = record { part = r.ty; others = w; phrase = t; rest = record { same = refl; left = refl } } };
+        rest = record
+            { same = refl; left = refl };
+      };
+    }
 
     back : (p : Place) (b : ResultShape) (us w : List Lexeme) → ResultRest b us w → ResultOf b (Mark sign.Arrow p ∷ us) w
     back p b us w a = let e = a.rest in subst (λ x. ResultOf x (Mark sign.Arrow p ∷ us) w) (sym e.rest.same) (subst (λ l. ResultOf (result_of a.part e.part) (Mark sign.Arrow p ∷ us) l) e.rest.left (result (result_of a.part e.part) p a.phrase e.phrase))

@@ -37,7 +37,10 @@ first_same names [] p = refl
 first_same names (a ∷ attrs) p = refl
 
 module _ {tokens : List Lexeme} {names : List (List ℕ)} {from node : ℕ} (h : from ≤ length tokens) where
-  pub member_tree : {place : Place} {a : Read (List Attr)} {n : Read Named} {e : Read Expr} → place ≡ first_of a.tree n.tree.place → ReadsOf attrs_seen (Many Attribute) 8 tokens names from node a → ReadsOf named_seen Name 0 tokens names a.end a.node n → ReadsOf expr_seen OfType 0 tokens names n.end n.node e → ReadsOf member_seen MemberOf 0 tokens names from node (record { tree = record { node = e.node; place = place; attrs = a.tree; name = n.tree; ty = e.tree }; end = e.end; node = e.node + 1 })
+  pub member_tree : {place : Place} {a : Read (List Attr)} {n : Read Named} {e : Read Expr} → place ≡ first_of a.tree n.tree.place →
+      ReadsOf attrs_seen (Many Attribute) 8 tokens names from node a → ReadsOf named_seen Name 0 tokens names a.end a.node n → ReadsOf expr_seen OfType 0 tokens names n.end n.node e →
+      ReadsOf member_seen MemberOf 0 tokens names from node
+      (record { tree = record { node = e.node; place = place; attrs = a.tree; name = n.tree; ty = e.tree }; end = e.end; node = e.node + 1 })
   member_tree {place = place} {a = a} {n = n} {e = e} first x y z =
       let s = member_of (attr_shapes names a.tree) (name_shape names n.tree) (expr_shape names e.tree) in
       let same : place ≡ first_place (attr_shapes names a.tree) n.tree.place = first ∙ first_same names a.tree n.tree.place in
@@ -49,7 +52,9 @@ module _ {tokens : List Lexeme} {names : List (List ℕ)} {from node : ℕ} (h :
             (count_join (named_nodes n.tree) (expr_nodes e.tree ++ e.node ∷ []) a.node n.node (e.node + 1) y.nodes (count_join (expr_nodes e.tree) (e.node ∷ []) n.node e.node (e.node + 1) z.nodes (refl, refl)));
       }
 
-  pub result_tree : {p : Place} {a : Read (List Attr)} {e : Read Expr} → slice_get tokens from ≡ Some (Mark sign.Arrow p) → from + 1 ≤ length tokens → from < e.end → ReadsOf attrs_seen (Many Attribute) 8 tokens names (from + 1) node a → ReadsOf expr_seen TypeName 0 tokens names a.end a.node e → MaybeOf result_seen (Mark sign.Arrow) ResultOf 0 tokens names from node (record { tree = Some (record { attrs = a.tree; ty = e.tree }); end = e.end; node = e.node })
+  pub result_tree : {p : Place} {a : Read (List Attr)} {e : Read Expr} → slice_get tokens from ≡ Some (Mark sign.Arrow p) → from + 1 ≤ length tokens → from < e.end →
+      ReadsOf attrs_seen (Many Attribute) 8 tokens names (from + 1) node a → ReadsOf expr_seen TypeName 0 tokens names a.end a.node e →
+      MaybeOf result_seen (Mark sign.Arrow) ResultOf 0 tokens names from node (record { tree = Some (record { attrs = a.tree; ty = e.tree }); end = e.end; node = e.node })
   result_tree {p = p} {a = a} {e = e} is high lt x y = record {
     reads = ((p, is), lt, opened_reads result_opens (omega arith) h (λ p. refl) p is (result_reads high x.reads y.reads));
     known = (let b = x.known in let c = y.known in omega arith);

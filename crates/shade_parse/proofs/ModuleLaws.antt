@@ -117,7 +117,9 @@ module _ {tokens : List Lexeme} where
       directives_fail f = run_fails DirectiveOf Decls ds s (λ x. directive_run_stops (ds ++ x ∷ [])) (λ x. decls_close (ds ++ x ∷ [])) f (avoided (later t.0 t.1 t.2) f.high f.us f.spelled)
         where
           later : (t : Lexeme) → slice_get tokens at ≡ Some t → BeginsDirective t → at < to
-          later (Key word.Diagnostic p) is b = fails_later (diagnostic_directive p some_name (plain_rule some_name) false) (Mark sign.Open p ∷ (Word some_name.text some_name.place ∷ (Mark sign.Comma p ∷ (Word some_name.text some_name.place ∷ (Mark sign.Close p ∷ (Mark sign.Semicolon p ∷ [])))))) (omega arith) is (diagnostic some_name p p p p p (rule some_name) no_mark) f
+          later (Key word.Diagnostic p) is b = fails_later (diagnostic_directive p some_name (plain_rule some_name) false)
+              (Mark sign.Open p ∷ (Word some_name.text some_name.place ∷ (Mark sign.Comma p ∷ (Word some_name.text some_name.place ∷ (Mark sign.Close p ∷ (Mark sign.Semicolon p ∷ []))))))
+              (omega arith) is (diagnostic some_name p p p p p (rule some_name) no_mark) f
           later (Key word.Requires p) is b = fails_later (requires_directive p (some_name ∷ []) false) (Word some_name.text some_name.place ∷ (Mark sign.Semicolon p ∷ [])) (omega arith) is (requires_names p p (last (name some_name))) f
           later (Key word.Enable p) is b = fails_later (enable_directive p (some_name ∷ []) false) (Word some_name.text some_name.place ∷ (Mark sign.Semicolon p ∷ [])) (omega arith) is (enables_names p p (last (name some_name))) f
           later _ is b = absurd b
@@ -139,7 +141,8 @@ module _ {tokens : List Lexeme} where
         omega arith
 
     pub decls_more : {d : DeclShape} {to : ℕ} (fs : List DeclShape) → fs ≡ es ++ d ∷ [] → Reads Declaration 0 tokens at d to → Stage Module 9 tokens 0 to (DeclRun ds fs)
-    decls_more {d = d} fs same p = run_more Declaration (λ es. Ends (tree ds es)) es s (λ x. decl_run_stops ds (es ++ x ∷ [])) fs same p (begins p.us d [] [] (λ none. let f = decl_first d (p.us ++ []) [] (p.phrase []) in let bad : [] ≡ f.0 ∷ f.1 = ap (λ l. l ++ []) (sym none) ∙ f.2 in cc) (p.phrase []))
+    decls_more {d = d} fs same p = run_more Declaration (λ es. Ends (tree ds es)) es s (λ x. decl_run_stops ds (es ++ x ∷ [])) fs same p
+        (begins p.us d [] [] (λ none. let f = decl_first d (p.us ++ []) [] (p.phrase []) in let bad : [] ≡ f.0 ∷ f.1 = ap (λ l. l ++ []) (sym none) ∙ f.2 in cc) (p.phrase []))
 
     -- a declaration fails behind its first token, or none begins here
     module _ {to : ℕ} (f : Fails Declaration 0 tokens at to) where

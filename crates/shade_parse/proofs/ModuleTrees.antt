@@ -49,7 +49,9 @@ module _ {tokens : List Lexeme} {size : ℕ} where
   directives_first {names = names} {directives = directives} none is = subst (λ ns. DirectiveTurn tokens size ns directives 0 0) (sym none) (turn_first is (grows_here []) (omega arith) (omega arith) (omega arith) module_begin)
 
   module _ {mid : List (List ℕ)} {directives : List Directive} {at node : ℕ} (t : DirectiveTurn tokens size mid directives at node) where
-    pub directive_turn : {new : List (List ℕ)} {r : Read Directive} (more : List Directive) → Grows mid new → DirectiveStands tokens at → ReadsOf directive_seen DirectiveOf 0 tokens new at node r → more ≡ directives ++ r.tree ∷ [] → at < r.end → r.end ≤ size → r.node + at ≤ node + r.end → length new + at ≤ length mid + r.end → DirectiveTurn tokens size new more r.end r.node
+    pub directive_turn : {new : List (List ℕ)} {r : Read Directive} (more : List Directive) → Grows mid new → DirectiveStands tokens at →
+        ReadsOf directive_seen DirectiveOf 0 tokens new at node r → more ≡ directives ++ r.tree ∷ [] → at < r.end → r.end ≤ size → r.node + at ≤ node + r.end →
+        length new + at ≤ length mid + r.end → DirectiveTurn tokens size new more r.end r.node
     directive_turn {r = r} more g stands x same further high numbered few = turn_more directive_keeps t g x same r.end (omega arith) high further numbered few (directives_more (map (directive_shape mid) directives) t.stage stands _ (turn_shapes directive_keeps t g x same) further x.reads)
 
     pub directive_fault : (new : List (List ℕ)) (f : Fault) → DirectiveStands tokens at → Faults DirectiveOf 0 tokens mid new at f → Refused tokens f
@@ -73,7 +75,8 @@ module _ {tokens : List Lexeme} {size : ℕ} where
         })
 
   module _ {mid : List (List ℕ)} {directives : List Directive} {decls : List Decl} {start at node : ℕ} (t : DeclTurn tokens size mid directives decls start at node) where
-    pub decl_turn : {new : List (List ℕ)} {r : Read Decl} (more : List Decl) → Grows mid new → ReadsOf decl_seen Declaration 0 tokens new at node r → more ≡ decls ++ r.tree ∷ [] → r.end ≤ size → r.node + at ≤ node + r.end → length new + at ≤ length mid + r.end → DeclTurn tokens size new directives more start r.end r.node
+    pub decl_turn : {new : List (List ℕ)} {r : Read Decl} (more : List Decl) → Grows mid new → ReadsOf decl_seen Declaration 0 tokens new at node r → more ≡ decls ++ r.tree ∷ [] →
+        r.end ≤ size → r.node + at ≤ node + r.end → length new + at ≤ length mid + r.end → DeclTurn tokens size new directives more start r.end r.node
     decl_turn {new = new} {r = r} more g x same high numbered few =
         let le : length mid ≤ length new = length_grows mid new g in
         let a : most_of directive_needs directives ≤ length mid = t.heads_known in

@@ -49,7 +49,8 @@ pub record Known (tokens : List Lexeme) (at : ℕ) (s : Nested) : Type 0 where
 pub known_first : (tokens : List Lexeme) → Known tokens 0 start
 known_first tokens = record { walked = walk_begins over start Exceeds tokens 0; small = small_begin }
 
-pub known_on : (pieces : List Piece) (at : ℕ) (d : Piece) (r : Turn) (s u v : Nested) → at < length pieces → Known (lexemes pieces) at s → r ≡ turn_of (lexeme (slice_index_or pieces at d)) → u ≡ before r s → v ≡ behind r u → u.inner.arms ≤ 1023 → v.inner.depth ≤ 127 → Known (lexemes pieces) (at + 1) v
+pub known_on : (pieces : List Piece) (at : ℕ) (d : Piece) (r : Turn) (s u v : Nested) → at < length pieces → Known (lexemes pieces) at s → r ≡ turn_of (lexeme (slice_index_or pieces at d)) →
+    u ≡ before r s → v ≡ behind r u → u.inner.arms ≤ 1023 → v.inner.depth ≤ 127 → Known (lexemes pieces) (at + 1) v
 known_on pieces at d r s u v lt k is_r is_u is_v few shallow =
     let t : Lexeme = lexeme (slice_index_or pieces at d) in
     let before_is : u ≡ before (turn_of t) s = is_u ∙ ap (λ x. before x s) is_r in

@@ -149,7 +149,9 @@ plain_rank (Key word.Struct p) r us w a = refl
 plain_rank _ r us w a = absurd a
 
 module _ {tokens : List Lexeme} {from : ℕ} (h : from ≤ length tokens) where
-  pub plain_stuck : ((p : Place) → slice_get tokens from ≡ Some (Mark sign.Semicolon p) → ⊥) → ((p : Place) → slice_get tokens from ≡ Some (Key word.Alias p) → ⊥) → ((p : Place) → slice_get tokens from ≡ Some (Key word.Const p) → ⊥) → ((p : Place) → slice_get tokens from ≡ Some (Key word.ConstAssert p) → ⊥) → ((p : Place) → slice_get tokens from ≡ Some (Key word.Struct p) → ⊥) → Fails (Headed PlainAt) 0 tokens from from
+  pub plain_stuck : ((p : Place) → slice_get tokens from ≡ Some (Mark sign.Semicolon p) → ⊥) → ((p : Place) → slice_get tokens from ≡ Some (Key word.Alias p) → ⊥) →
+      ((p : Place) → slice_get tokens from ≡ Some (Key word.Const p) → ⊥) → ((p : Place) → slice_get tokens from ≡ Some (Key word.ConstAssert p) → ⊥) →
+      ((p : Place) → slice_get tokens from ≡ Some (Key word.Struct p) → ⊥) → Fails (Headed PlainAt) 0 tokens from from
   plain_stuck a b c d e =
       stuck (Headed PlainAt) 0 tokens from from (Headed PlainAt)
       (record { tree = empty_decl some_place; more = Mark sign.Semicolon some_place ∷ []; closed = λ w. record { first = Mark sign.Semicolon some_place; others = w; split = refl; at = record { same = refl; left = refl } } })

@@ -141,6 +141,8 @@ module _ (text : List ℕ) (pairs : List (ℕ × ℕ)) (tokens : List Token) (pi
   pieces_few u a small = omega (arith, tokens_few text tokens u a, ap length same, length-map pieces lexeme, ap length are, length-map tokens (lexeme_of text pairs))
 
 -- the tree of all pieces
-pub wholes : (pieces : List Piece) (r : Result Tree Fault) → MatchResult r (λ t. IsOnly Module (tree_shape t) (lexemes pieces)) (Refused (lexemes pieces)) → IfOk r (λ t. tree_needs t ≤ length t.names) → IfOk r (λ t. CountFrom 0 (tree_nodes t) (length (tree_nodes t))) → IfOk r (λ t. length t.names ≤ length pieces) → IfOk r (λ t. length (tree_nodes t) ≤ length pieces) → MatchResult r (IsWhole (lexemes pieces)) (Refused (lexemes pieces))
+pub wholes : (pieces : List Piece) (r : Result Tree Fault) → MatchResult r (λ t. IsOnly Module (tree_shape t) (lexemes pieces)) (Refused (lexemes pieces)) →
+    IfOk r (λ t. tree_needs t ≤ length t.names) → IfOk r (λ t. CountFrom 0 (tree_nodes t) (length (tree_nodes t))) → IfOk r (λ t. length t.names ≤ length pieces) →
+    IfOk r (λ t. length (tree_nodes t) ≤ length pieces) → MatchResult r (IsWhole (lexemes pieces)) (Refused (lexemes pieces))
 wholes pieces (Ok t) only known numbered names nodes = record { only = only; known = known; few_names = omega (arith, names, length-map pieces lexeme); nodes = length (tree_nodes t); numbered = numbered; few_nodes = omega (arith, nodes, length-map pieces lexeme) }
 wholes pieces (Err f) refused known numbered names nodes = refused

@@ -55,7 +55,8 @@ pub fn declaration(
     requires within { from ≤ length pieces.now }
     requires node { node + length pieces.now < 2 ^ 32 + from }
     requires names { length names.old + length pieces.now < 2 ^ 32 + from }
-    ensures tree { MatchResult result (λ r. ReadsOf decl_seen Declaration 0 (lexemes pieces.now) names.new from node r) (λ f. Faults Declaration 0 (lexemes pieces.now) names.old names.new from f) }
+    ensures tree { MatchResult result (λ r. ReadsOf decl_seen Declaration 0 (lexemes pieces.now) names.new from node r)
+        (λ f. Faults Declaration 0 (lexemes pieces.now) names.old names.new from f) }
     ensures grows { Grows names.old names.new }
     ensures further { IfOk result (λ r. from < r.end) }
     ensures within { IfOk result (λ r. r.end ≤ length pieces.now) }
@@ -95,7 +96,8 @@ fn function(
     requires within { from ≤ length pieces.now }
     requires node { node + length pieces.now < 2 ^ 32 + from }
     requires names { length names.old + length pieces.now < 2 ^ 32 + from }
-    ensures tree { MatchResult result (λ r. ReadsOf fn_seen FnRest 0 (lexemes pieces.now) names.new from node r) (λ f. Faults FnRest 0 (lexemes pieces.now) names.old names.new from f) }
+    ensures tree { MatchResult result (λ r. ReadsOf fn_seen FnRest 0 (lexemes pieces.now) names.new from node r)
+        (λ f. Faults FnRest 0 (lexemes pieces.now) names.old names.new from f) }
     ensures grows { Grows names.old names.new }
     ensures further { IfOk result (λ r. from < r.end) }
     ensures within { IfOk result (λ r. r.end ≤ length pieces.now) }
@@ -137,7 +139,8 @@ fn overridable(
     requires within { from ≤ length pieces.now }
     requires node { node + length pieces.now < 2 ^ 32 + from }
     requires names { length names.old + length pieces.now < 2 ^ 32 + from }
-    ensures tree { MatchResult result (λ r. ReadsOf override_seen OverrideRest 0 (lexemes pieces.now) names.new from node r) (λ f. Faults OverrideRest 0 (lexemes pieces.now) names.old names.new from f) }
+    ensures tree { MatchResult result (λ r. ReadsOf override_seen OverrideRest 0 (lexemes pieces.now) names.new from node r)
+        (λ f. Faults OverrideRest 0 (lexemes pieces.now) names.old names.new from f) }
     ensures grows { Grows names.old names.new }
     ensures further { IfOk result (λ r. from < r.end) }
     ensures within { IfOk result (λ r. r.end ≤ length pieces.now) }
@@ -166,7 +169,15 @@ fn overridable(
 
 fn fn_decl(attrs: Items<Attr>, keyword: Place, body: Read<FnBody>) -> Read<Decl>
     requires { body.node + 1 < 2 ^ 32 }
-    ensures { result ≡ record { tree = record { node = body.node; place = first_of attrs keyword; kind = DeclKind.Fn attrs keyword body.tree.name body.tree.params body.tree.trailing body.tree.result body.tree.body }; end = body.end; node = body.node + 1 } }
+    ensures { result ≡ record {
+      tree = record {
+        node = body.node;
+        place = first_of attrs keyword;
+        kind = DeclKind.Fn attrs keyword body.tree.name body.tree.params body.tree.trailing body.tree.result body.tree.body;
+      };
+      end = body.end;
+      node = body.node + 1;
+    } }
 {
     let place = first_place(&attrs, keyword);
     let parts = body.tree;
@@ -184,7 +195,15 @@ fn fn_decl(attrs: Items<Attr>, keyword: Place, body: Read<FnBody>) -> Read<Decl>
 
 fn override_decl(attrs: Items<Attr>, keyword: Place, body: Read<OverrideBody>) -> Read<Decl>
     requires { body.node + 1 < 2 ^ 32 }
-    ensures { result ≡ record { tree = record { node = body.node; place = first_of attrs keyword; kind = DeclKind.Override attrs keyword body.tree.name body.tree.ty body.tree.value }; end = body.end; node = body.node + 1 } }
+    ensures { result ≡ record {
+      tree = record {
+        node = body.node;
+        place = first_of attrs keyword;
+        kind = DeclKind.Override attrs keyword body.tree.name body.tree.ty body.tree.value;
+      };
+      end = body.end;
+      node = body.node + 1;
+    } }
 {
     let place = first_place(&attrs, keyword);
     let parts = body.tree;
@@ -202,7 +221,15 @@ fn override_decl(attrs: Items<Attr>, keyword: Place, body: Read<OverrideBody>) -
 fn var_decl(attrs: Items<Attr>, var: Read<Var>) -> Read<Decl>
     requires node { var.node + 1 < 2 ^ 32 }
     requires end { var.end + 1 < 2 ^ 64 }
-    ensures { result ≡ record { tree = record { node = var.node; place = first_of attrs var.tree.keyword; kind = DeclKind.Var attrs var.tree }; end = var.end + 1; node = var.node + 1 } }
+    ensures { result ≡ record {
+      tree = record {
+        node = var.node;
+        place = first_of attrs var.tree.keyword;
+        kind = DeclKind.Var attrs var.tree;
+      };
+      end = var.end + 1;
+      node = var.node + 1;
+    } }
 {
     let variable = var.tree;
     let place = first_place(&attrs, variable.keyword);
@@ -236,7 +263,8 @@ fn plain(
     requires within { from ≤ length pieces.now }
     requires node { node + length pieces.now < 2 ^ 32 + from }
     requires names { length names.old + length pieces.now < 2 ^ 32 + from }
-    ensures tree { MatchResult result (λ r. ReadsOf decl_seen (Headed PlainAt) 0 (lexemes pieces.now) names.new from node r) (λ f. Faults (Headed PlainAt) 0 (lexemes pieces.now) names.old names.new from f) }
+    ensures tree { MatchResult result (λ r. ReadsOf decl_seen (Headed PlainAt) 0 (lexemes pieces.now) names.new from node r)
+        (λ f. Faults (Headed PlainAt) 0 (lexemes pieces.now) names.old names.new from f) }
     ensures grows { Grows names.old names.new }
     ensures further { IfOk result (λ r. from < r.end) }
     ensures within { IfOk result (λ r. r.end ≤ length pieces.now) }
@@ -277,7 +305,8 @@ fn alias(
     requires within { from ≤ length pieces.now }
     requires node { node + length pieces.now < 2 ^ 32 + from }
     requires names { length names.old + length pieces.now < 2 ^ 32 + from }
-    ensures tree { MatchResult result (λ r. ReadsOf (decl_kind_seen place) (AliasRest place) 0 (lexemes pieces.now) names.new from node r) (λ f. Faults (AliasRest place) 0 (lexemes pieces.now) names.old names.new from f) }
+    ensures tree { MatchResult result (λ r. ReadsOf (decl_kind_seen place) (AliasRest place) 0 (lexemes pieces.now) names.new from node r)
+        (λ f. Faults (AliasRest place) 0 (lexemes pieces.now) names.old names.new from f) }
     ensures grows { Grows names.old names.new }
     ensures further { IfOk result (λ r. from < r.end) }
     ensures within { IfOk result (λ r. r.end ≤ length pieces.now) }
@@ -314,7 +343,8 @@ fn constant(
     requires within { from ≤ length pieces.now }
     requires node { node + length pieces.now < 2 ^ 32 + from }
     requires names { length names.old + length pieces.now < 2 ^ 32 + from }
-    ensures tree { MatchResult result (λ r. ReadsOf (decl_kind_seen place) (ConstRest place) 0 (lexemes pieces.now) names.new from node r) (λ f. Faults (ConstRest place) 0 (lexemes pieces.now) names.old names.new from f) }
+    ensures tree { MatchResult result (λ r. ReadsOf (decl_kind_seen place) (ConstRest place) 0 (lexemes pieces.now) names.new from node r)
+        (λ f. Faults (ConstRest place) 0 (lexemes pieces.now) names.old names.new from f) }
     ensures grows { Grows names.old names.new }
     ensures further { IfOk result (λ r. from < r.end) }
     ensures within { IfOk result (λ r. r.end ≤ length pieces.now) }
@@ -344,7 +374,8 @@ fn assertion(
     requires within { from ≤ length pieces.now }
     requires node { node + length pieces.now < 2 ^ 32 + from }
     requires names { length names.old + length pieces.now < 2 ^ 32 + from }
-    ensures tree { MatchResult result (λ r. ReadsOf (decl_kind_seen place) (AssertRest place) 0 (lexemes pieces.now) names.new from node r) (λ f. Faults (AssertRest place) 0 (lexemes pieces.now) names.old names.new from f) }
+    ensures tree { MatchResult result (λ r. ReadsOf (decl_kind_seen place) (AssertRest place) 0 (lexemes pieces.now) names.new from node r)
+        (λ f. Faults (AssertRest place) 0 (lexemes pieces.now) names.old names.new from f) }
     ensures grows { Grows names.old names.new }
     ensures further { IfOk result (λ r. from < r.end) }
     ensures within { IfOk result (λ r. r.end ≤ length pieces.now) }
@@ -374,7 +405,8 @@ fn structure(
     requires within { from ≤ length pieces.now }
     requires node { node + length pieces.now < 2 ^ 32 + from }
     requires names { length names.old + length pieces.now < 2 ^ 32 + from }
-    ensures tree { MatchResult result (λ r. ReadsOf (decl_kind_seen place) (StructRest place) 0 (lexemes pieces.now) names.new from node r) (λ f. Faults (StructRest place) 0 (lexemes pieces.now) names.old names.new from f) }
+    ensures tree { MatchResult result (λ r. ReadsOf (decl_kind_seen place) (StructRest place) 0 (lexemes pieces.now) names.new from node r)
+        (λ f. Faults (StructRest place) 0 (lexemes pieces.now) names.old names.new from f) }
     ensures grows { Grows names.old names.new }
     ensures further { IfOk result (λ r. from < r.end) }
     ensures within { IfOk result (λ r. r.end ≤ length pieces.now) }

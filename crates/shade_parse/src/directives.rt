@@ -29,7 +29,8 @@ pub fn directive(
     requires within { from ≤ length pieces.now }
     requires node { node + length pieces.now < 2 ^ 32 + from }
     requires names { length names.old + length pieces.now < 2 ^ 32 + from }
-    ensures tree { MatchResult result (λ r. ReadsOf directive_seen DirectiveOf 0 (lexemes pieces.now) names.new from node r) (λ f. Faults DirectiveOf 0 (lexemes pieces.now) names.old names.new from f) }
+    ensures tree { MatchResult result (λ r. ReadsOf directive_seen DirectiveOf 0 (lexemes pieces.now) names.new from node r)
+        (λ f. Faults DirectiveOf 0 (lexemes pieces.now) names.old names.new from f) }
     ensures grows { Grows names.old names.new }
     ensures further { IfOk result (λ r. from < r.end) }
     ensures within { IfOk result (λ r. r.end ≤ length pieces.now) }
@@ -102,7 +103,8 @@ fn diagnostic(
     requires within { from ≤ length pieces.now }
     requires node { node + length pieces.now < 2 ^ 32 + from }
     requires names { length names.old + length pieces.now < 2 ^ 32 + from }
-    ensures tree { MatchResult result (λ r. ReadsOf (directive_kind_seen place) (DiagnosticRest place) 0 (lexemes pieces.now) names.new from node r) (λ f. Faults (DiagnosticRest place) 0 (lexemes pieces.now) names.old names.new from f) }
+    ensures tree { MatchResult result (λ r. ReadsOf (directive_kind_seen place) (DiagnosticRest place) 0 (lexemes pieces.now) names.new from node r)
+        (λ f. Faults (DiagnosticRest place) 0 (lexemes pieces.now) names.old names.new from f) }
     ensures grows { Grows names.old names.new }
     ensures further { IfOk result (λ r. from < r.end) }
     ensures within { IfOk result (λ r. r.end ≤ length pieces.now) }
@@ -137,7 +139,8 @@ fn rule(pieces: &[Piece], names: &mut Names, from: usize, node: u32) -> Result<R
     requires within { from ≤ length pieces.now }
     requires node { node + length pieces.now < 2 ^ 32 + from }
     requires names { length names.old + length pieces.now < 2 ^ 32 + from }
-    ensures tree { MatchResult result (λ r. ReadsOf rule_seen RuleOf 2 (lexemes pieces.now) names.new from node r) (λ f. Faults RuleOf 2 (lexemes pieces.now) names.old names.new from f) }
+    ensures tree { MatchResult result (λ r. ReadsOf rule_seen RuleOf 2 (lexemes pieces.now) names.new from node r)
+        (λ f. Faults RuleOf 2 (lexemes pieces.now) names.old names.new from f) }
     ensures grows { Grows names.old names.new }
     ensures further { IfOk result (λ r. from < r.end) }
     ensures within { IfOk result (λ r. r.end ≤ length pieces.now) }

@@ -46,7 +46,9 @@ pub fn name_list(
     requires within { from ≤ length pieces.now }
     requires node { node + length pieces.now < 2 ^ 32 + from }
     requires names { length names.old + length pieces.now < 2 ^ 32 + from }
-    ensures tree { MatchResult result (λ r. ReadsOf (enclosed_seen named_seen) (Enclosed (Listed Name) sign_.Semicolon) 0 (lexemes pieces.now) names.new from node r) (λ f. Faults (Enclosed (Listed Name) sign_.Semicolon) 0 (lexemes pieces.now) names.old names.new from f) }
+    ensures tree { MatchResult result
+        (λ r. ReadsOf (enclosed_seen named_seen) (Enclosed (Listed Name) sign_.Semicolon) 0 (lexemes pieces.now) names.new from node r)
+        (λ f. Faults (Enclosed (Listed Name) sign_.Semicolon) 0 (lexemes pieces.now) names.old names.new from f) }
     ensures grows { Grows names.old names.new }
     ensures further { IfOk result (λ r. from < r.end) }
     ensures within { IfOk result (λ r. r.end ≤ length pieces.now) }
@@ -106,7 +108,8 @@ fn member(
     requires within { from ≤ length pieces.now }
     requires node { node + length pieces.now < 2 ^ 32 + from }
     requires names { length names.old + length pieces.now < 2 ^ 32 + from }
-    ensures tree { MatchResult result (λ r. ReadsOf member_seen MemberOf 0 (lexemes pieces.now) names.new from node r) (λ f. Faults MemberOf 0 (lexemes pieces.now) names.old names.new from f) }
+    ensures tree { MatchResult result (λ r. ReadsOf member_seen MemberOf 0 (lexemes pieces.now) names.new from node r)
+        (λ f. Faults MemberOf 0 (lexemes pieces.now) names.old names.new from f) }
     ensures grows { Grows names.old names.new }
     ensures further { IfOk result (λ r. from < r.end) }
     ensures within { IfOk result (λ r. r.end ≤ length pieces.now) }
@@ -143,7 +146,9 @@ pub fn members(
     requires node { node + length pieces.now < 2 ^ 32 + from }
     requires names { length names.old + length pieces.now < 2 ^ 32 + from }
     requires closer { (closer ≡ sign_.CloseBrace) ⊎ (closer ≡ sign_.Close) }
-    ensures tree { MatchResult result (λ r. ReadsOf (enclosed_seen member_seen) (Enclosed (Listed MemberOf) closer) 0 (lexemes pieces.now) names.new from node r) (λ f. Faults (Enclosed (Listed MemberOf) closer) 0 (lexemes pieces.now) names.old names.new from f) }
+    ensures tree { MatchResult result
+        (λ r. ReadsOf (enclosed_seen member_seen) (Enclosed (Listed MemberOf) closer) 0 (lexemes pieces.now) names.new from node r)
+        (λ f. Faults (Enclosed (Listed MemberOf) closer) 0 (lexemes pieces.now) names.old names.new from f) }
     ensures grows { Grows names.old names.new }
     ensures further { IfOk result (λ r. from < r.end) }
     ensures within { IfOk result (λ r. r.end ≤ length pieces.now) }
@@ -181,7 +186,9 @@ pub fn parameters(
     requires within { from ≤ length pieces.now }
     requires node { node + length pieces.now < 2 ^ 32 + from }
     requires names { length names.old + length pieces.now < 2 ^ 32 + from }
-    ensures tree { MatchResult result (λ r. ReadsOf (enclosed_seen member_seen) (Enclosed (MaybeListed MemberOf) sign_.Close) 0 (lexemes pieces.now) names.new from node r) (λ f. Faults (Enclosed (MaybeListed MemberOf) sign_.Close) 0 (lexemes pieces.now) names.old names.new from f) }
+    ensures tree { MatchResult result
+        (λ r. ReadsOf (enclosed_seen member_seen) (Enclosed (MaybeListed MemberOf) sign_.Close) 0 (lexemes pieces.now) names.new from node r)
+        (λ f. Faults (Enclosed (MaybeListed MemberOf) sign_.Close) 0 (lexemes pieces.now) names.old names.new from f) }
     ensures grows { Grows names.old names.new }
     ensures further { IfOk result (λ r. from < r.end) }
     ensures within { IfOk result (λ r. r.end ≤ length pieces.now) }
@@ -205,7 +212,8 @@ pub fn maybe_result(
     requires within { from ≤ length pieces.now }
     requires node { node + length pieces.now < 2 ^ 32 + from }
     requires names { length names.old + length pieces.now < 2 ^ 32 + from }
-    ensures tree { MatchResult result (λ r. MaybeOf result_seen (Mark sign_.Arrow) ResultOf 0 (lexemes pieces.now) names.new from node r) (λ f. MaybeFaults (Mark sign_.Arrow) ResultOf 0 (lexemes pieces.now) names.old names.new from f) }
+    ensures tree { MatchResult result (λ r. MaybeOf result_seen (Mark sign_.Arrow) ResultOf 0 (lexemes pieces.now) names.new from node r)
+        (λ f. MaybeFaults (Mark sign_.Arrow) ResultOf 0 (lexemes pieces.now) names.old names.new from f) }
     ensures grows { Grows names.old names.new }
     ensures further { IfOk result (λ r. from ≤ r.end) }
     ensures within { IfOk result (λ r. r.end ≤ length pieces.now) }

@@ -14,16 +14,28 @@ use Rattle.shade_parse.proofs.DeclarationTrees.{alias_tree}
 use Rattle.shade_parse.proofs.declarations.alias.Goals as goal
 
 pub returns-in_err-name-clause-tree : goal.returns-in_err-name-clause-tree
-returns-in_err-name-clause-tree c = errs _ c.in_err-name.field-0.0 _ _ c.from_residual.ensures.1 (fault_on (AliasRest c.args.place) Name 0 0 (lexemes c.args.pieces.now) c.args.names.now c.args.names.now _ c.args.from c.args.from c.in_err-name.field-0.0 (omega arith) (λ to f. alias_name_fails c.args.place (within c.args.pieces.now c.args.from c.requires.within) f) c.in_err-name.ensures.tree)
+returns-in_err-name-clause-tree c = errs _ c.in_err-name.field-0.0 _ _ c.from_residual.ensures.1
+    (fault_on (AliasRest c.args.place) Name 0 0 (lexemes c.args.pieces.now) c.args.names.now c.args.names.now _ c.args.from c.args.from c.in_err-name.field-0.0 (omega arith)
+    (λ to f. alias_name_fails c.args.place (within c.args.pieces.now c.args.from c.requires.within) f) c.in_err-name.ensures.tree)
 
 pub returns-in_default-clause-tree : goal.returns-in_default-clause-tree
-returns-in_default-clause-tree c = fails_here (AliasRest c.args.place) 0 (lexemes c.args.pieces.now) c.args.names.now c.name.new.names c.args.from c.in_ok-name.name.end (omega (arith, c.in_ok-name.ensures.names)) (alias_stuck c.args.place (within c.args.pieces.now c.args.from c.requires.within) c.in_ok-name.ensures.tree.reads c.in_default.ensures.value)
+returns-in_default-clause-tree c = fails_here (AliasRest c.args.place) 0 (lexemes c.args.pieces.now) c.args.names.now c.name.new.names c.args.from c.in_ok-name.name.end
+    (omega (arith, c.in_ok-name.ensures.names)) (alias_stuck c.args.place (within c.args.pieces.now c.args.from c.requires.within) c.in_ok-name.ensures.tree.reads c.in_default.ensures.value)
 
 pub returns-in_err-ty-clause-tree : goal.returns-in_err-ty-clause-tree
-returns-in_err-ty-clause-tree c = errs _ c.in_err-ty.field-0.0 _ _ c.from_residual-in_err-ty.ensures.1 (fault_on (AliasRest c.args.place) TypeName 0 0 (lexemes c.args.pieces.now) c.args.names.now c.name.new.names _ c.args.from (c.in_ok-name.name.end + 1) c.in_err-ty.field-0.0 (omega (arith, c.in_ok-name.ensures.names)) (λ to f. closed_fails TypeName (alias_decl c.args.place _) (omega arith) (alias_equal c.args.place (within c.args.pieces.now c.args.from c.requires.within) c.in_ok-name.ensures.tree.reads _ c.in-Some.ensures.value) f) c.in_err-ty.ensures.tree)
+returns-in_err-ty-clause-tree c = errs _ c.in_err-ty.field-0.0 _ _ c.from_residual-in_err-ty.ensures.1
+    (fault_on (AliasRest c.args.place) TypeName 0 0 (lexemes c.args.pieces.now) c.args.names.now c.name.new.names _ c.args.from (c.in_ok-name.name.end + 1) c.in_err-ty.field-0.0
+    (omega (arith, c.in_ok-name.ensures.names))
+    (λ to f. closed_fails TypeName (alias_decl c.args.place _) (omega arith)
+    (alias_equal c.args.place (within c.args.pieces.now c.args.from c.requires.within) c.in_ok-name.ensures.tree.reads _ c.in-Some.ensures.value) f) c.in_err-ty.ensures.tree)
 
 pub returns-in_default-mark_at-clause-tree : goal.returns-in_default-mark_at-clause-tree
-returns-in_default-mark_at-clause-tree c = errs _ (fault.Unexpected (c.in_ok-ty.ty.end)) _ _ c.refuse.ensures (fails_here (AliasRest c.args.place) 0 (lexemes c.args.pieces.now) c.args.names.now c.type_name.new.names c.args.from c.in_ok-ty.ty.end (omega (arith, c.in_ok-name.ensures.names, c.in_ok-ty.ensures.names)) (closed_stuck TypeName (alias_decl c.args.place _) (omega arith) (alias_equal c.args.place (within c.args.pieces.now c.args.from c.requires.within) c.in_ok-name.ensures.tree.reads _ c.in-Some.ensures.value) c.in_ok-ty.ensures.tree.reads c.in_default-mark_at.ensures.value))
+returns-in_default-mark_at-clause-tree c = errs _ (fault.Unexpected (c.in_ok-ty.ty.end)) _ _ c.refuse.ensures
+    (fails_here (AliasRest c.args.place) 0 (lexemes c.args.pieces.now) c.args.names.now c.type_name.new.names c.args.from c.in_ok-ty.ty.end
+    (omega (arith, c.in_ok-name.ensures.names, c.in_ok-ty.ensures.names))
+    (closed_stuck TypeName (alias_decl c.args.place _) (omega arith)
+    (alias_equal c.args.place (within c.args.pieces.now c.args.from c.requires.within) c.in_ok-name.ensures.tree.reads _ c.in-Some.ensures.value) c.in_ok-ty.ensures.tree.reads
+    c.in_default-mark_at.ensures.value))
 
 pub returns-clause-tree : goal.returns-clause-tree
 returns-clause-tree c = alias_tree (within c.args.pieces.now c.args.from c.requires.within) (widen named_keeps c.in_ok-ty.ensures.grows c.in_ok-name.ensures.tree) c.in-Some.ensures.value (part_reads c.in_ok-ty.ensures.tree) c.in-Some-mark_at.ensures.value

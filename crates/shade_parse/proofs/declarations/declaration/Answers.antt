@@ -19,34 +19,70 @@ use Rattle.shade_ast.specs.Shaped.{attr_shapes}
 use Rattle.shade_parse.proofs.declarations.declaration.Goals as goal
 
 pub returns-in_err-attrs-clause-tree : goal.returns-in_err-attrs-clause-tree
-returns-in_err-attrs-clause-tree c = errs _ c.in_err-attrs.field-0.0 _ _ c.from_residual.ensures.1 (fault_on Declaration (Many Attribute) 0 8 (lexemes c.args.pieces.now) c.args.names.now c.args.names.now _ c.args.from c.args.from c.in_err-attrs.field-0.0 (omega arith) (λ to f. decl_attrs_fail (within c.args.pieces.now c.args.from c.requires.within) f) c.in_err-attrs.ensures.tree)
+returns-in_err-attrs-clause-tree c = errs _ c.in_err-attrs.field-0.0 _ _ c.from_residual.ensures.1
+    (fault_on Declaration (Many Attribute) 0 8 (lexemes c.args.pieces.now) c.args.names.now c.args.names.now _ c.args.from c.args.from c.in_err-attrs.field-0.0 (omega arith)
+    (λ to f. decl_attrs_fail (within c.args.pieces.now c.args.from c.requires.within) f) c.in_err-attrs.ensures.tree)
 
 pub returns-in_err-body-clause-tree : goal.returns-in_err-body-clause-tree
-returns-in_err-body-clause-tree c = errs _ c.in_err-body.field-0.0 _ _ c.from_residual-in_err-body.ensures.1 (fault_on Declaration FnRest 0 0 (lexemes c.args.pieces.now) c.args.names.now c.attributes.new.names _ c.args.from (c.in_ok-attrs.attrs.end + 1) c.in_err-body.field-0.0 (omega (arith, c.in_ok-attrs.ensures.names)) (λ to f. decl_fn_fails (within c.args.pieces.now c.args.from c.requires.within) c.in_ok-attrs.ensures.tree.reads _ c.in-Some.ensures.value f) c.in_err-body.ensures.tree)
+returns-in_err-body-clause-tree c = errs _ c.in_err-body.field-0.0 _ _ c.from_residual-in_err-body.ensures.1
+    (fault_on Declaration FnRest 0 0 (lexemes c.args.pieces.now) c.args.names.now c.attributes.new.names _ c.args.from (c.in_ok-attrs.attrs.end + 1) c.in_err-body.field-0.0
+    (omega (arith, c.in_ok-attrs.ensures.names))
+    (λ to f. decl_fn_fails (within c.args.pieces.now c.args.from c.requires.within) c.in_ok-attrs.ensures.tree.reads _ c.in-Some.ensures.value f) c.in_err-body.ensures.tree)
 
 pub returns-in-Some-clause-tree : goal.returns-in-Some-clause-tree
-returns-in-Some-clause-tree c = subst (λ r. ReadsOf decl_seen Declaration 0 (lexemes c.args.pieces.now) c.function.new.names c.args.from c.args.node r) (sym c.fn_decl.ensures) (fn_decl_tree (within c.args.pieces.now c.args.from c.requires.within) (widen attrs_keep c.in_ok-body.ensures.grows c.in_ok-attrs.ensures.tree) c.in-Some.ensures.value c.in_ok-body.ensures.tree)
+returns-in-Some-clause-tree c = subst (λ r. ReadsOf decl_seen Declaration 0 (lexemes c.args.pieces.now) c.function.new.names c.args.from c.args.node r) (sym c.fn_decl.ensures)
+    (fn_decl_tree (within c.args.pieces.now c.args.from c.requires.within) (widen attrs_keep c.in_ok-body.ensures.grows c.in_ok-attrs.ensures.tree) c.in-Some.ensures.value
+    c.in_ok-body.ensures.tree)
 
 pub returns-in_err-body-2-clause-tree : goal.returns-in_err-body-2-clause-tree
-returns-in_err-body-2-clause-tree c = errs _ c.in_err-body-2.field-0.0 _ _ c.from_residual-in_err-body-2.ensures.1 (fault_on Declaration OverrideRest 0 0 (lexemes c.args.pieces.now) c.args.names.now c.attributes.new.names _ c.args.from (c.in_ok-attrs.attrs.end + 1) c.in_err-body-2.field-0.0 (omega (arith, c.in_ok-attrs.ensures.names)) (λ to f. decl_override_fails (within c.args.pieces.now c.args.from c.requires.within) c.in_ok-attrs.ensures.tree.reads c.in_default.ensures.value _ c.in-Some-key_at.ensures.value f) c.in_err-body-2.ensures.tree)
+returns-in_err-body-2-clause-tree c = errs _ c.in_err-body-2.field-0.0 _ _ c.from_residual-in_err-body-2.ensures.1
+    (fault_on Declaration OverrideRest 0 0 (lexemes c.args.pieces.now) c.args.names.now c.attributes.new.names _ c.args.from (c.in_ok-attrs.attrs.end + 1) c.in_err-body-2.field-0.0
+    (omega (arith, c.in_ok-attrs.ensures.names))
+    (λ to f. decl_override_fails (within c.args.pieces.now c.args.from c.requires.within) c.in_ok-attrs.ensures.tree.reads c.in_default.ensures.value _ c.in-Some-key_at.ensures.value f)
+    c.in_err-body-2.ensures.tree)
 
 pub returns-in-Some-key_at-clause-tree : goal.returns-in-Some-key_at-clause-tree
-returns-in-Some-key_at-clause-tree c = subst (λ r. ReadsOf decl_seen Declaration 0 (lexemes c.args.pieces.now) c.overridable.new.names c.args.from c.args.node r) (sym c.override_decl.ensures) (override_decl_tree (within c.args.pieces.now c.args.from c.requires.within) (widen attrs_keep c.in_ok-body-2.ensures.grows c.in_ok-attrs.ensures.tree) c.in_default.ensures.value c.in-Some-key_at.ensures.value c.in_ok-body-2.ensures.tree)
+returns-in-Some-key_at-clause-tree c = subst (λ r. ReadsOf decl_seen Declaration 0 (lexemes c.args.pieces.now) c.overridable.new.names c.args.from c.args.node r)
+    (sym c.override_decl.ensures)
+    (override_decl_tree (within c.args.pieces.now c.args.from c.requires.within) (widen attrs_keep c.in_ok-body-2.ensures.grows c.in_ok-attrs.ensures.tree) c.in_default.ensures.value
+    c.in-Some-key_at.ensures.value c.in_ok-body-2.ensures.tree)
 
 pub returns-in_err-variable-clause-tree : goal.returns-in_err-variable-clause-tree
-returns-in_err-variable-clause-tree c = errs _ c.in_err-variable.field-0.0 _ _ c.from_residual-in_err-variable.ensures.1 (fault_on Declaration Var 0 8 (lexemes c.args.pieces.now) c.args.names.now c.attributes.new.names _ c.args.from c.in_ok-attrs.attrs.end c.in_err-variable.field-0.0 (omega (arith, c.in_ok-attrs.ensures.names)) (λ to f. decl_var_fails (within c.args.pieces.now c.args.from c.requires.within) c.in_ok-attrs.ensures.tree.reads c.in_default.ensures.value c.in_default-key_at.ensures.value _ c.in-Some-key_at-2.ensures.value f) c.in_err-variable.ensures.tree)
+returns-in_err-variable-clause-tree c = errs _ c.in_err-variable.field-0.0 _ _ c.from_residual-in_err-variable.ensures.1
+    (fault_on Declaration Var 0 8 (lexemes c.args.pieces.now) c.args.names.now c.attributes.new.names _ c.args.from c.in_ok-attrs.attrs.end c.in_err-variable.field-0.0
+    (omega (arith, c.in_ok-attrs.ensures.names))
+    (λ to f. decl_var_fails (within c.args.pieces.now c.args.from c.requires.within) c.in_ok-attrs.ensures.tree.reads c.in_default.ensures.value c.in_default-key_at.ensures.value _
+    c.in-Some-key_at-2.ensures.value f) c.in_err-variable.ensures.tree)
 
 pub returns-in_default-mark_at-clause-tree : goal.returns-in_default-mark_at-clause-tree
-returns-in_default-mark_at-clause-tree c = errs _ (fault.Unexpected (c.in_ok-variable.variable.end)) _ _ c.refuse.ensures (fails_here Declaration 0 (lexemes c.args.pieces.now) c.args.names.now c.var.new.names c.args.from c.in_ok-variable.variable.end (omega (arith, c.in_ok-attrs.ensures.names, c.in_ok-variable.ensures.names)) (decl_var_stuck (within c.args.pieces.now c.args.from c.requires.within) c.in_ok-attrs.ensures.tree.reads c.in_default.ensures.value c.in_default-key_at.ensures.value _ c.in-Some-key_at-2.ensures.value c.in_ok-variable.ensures.tree.reads c.in_default-mark_at.ensures.value))
+returns-in_default-mark_at-clause-tree c = errs _ (fault.Unexpected (c.in_ok-variable.variable.end)) _ _ c.refuse.ensures
+    (fails_here Declaration 0 (lexemes c.args.pieces.now) c.args.names.now c.var.new.names c.args.from c.in_ok-variable.variable.end
+    (omega (arith, c.in_ok-attrs.ensures.names, c.in_ok-variable.ensures.names))
+    (decl_var_stuck (within c.args.pieces.now c.args.from c.requires.within) c.in_ok-attrs.ensures.tree.reads c.in_default.ensures.value c.in_default-key_at.ensures.value _
+    c.in-Some-key_at-2.ensures.value c.in_ok-variable.ensures.tree.reads c.in_default-mark_at.ensures.value))
 
 pub returns-in-Some-key_at-2-clause-tree : goal.returns-in-Some-key_at-2-clause-tree
-returns-in-Some-key_at-2-clause-tree c = subst (λ r. ReadsOf decl_seen Declaration 0 (lexemes c.args.pieces.now) c.var.new.names c.args.from c.args.node r) (sym c.var_decl.ensures) (var_decl_tree (within c.args.pieces.now c.args.from c.requires.within) (widen attrs_keep c.in_ok-variable.ensures.grows c.in_ok-attrs.ensures.tree) c.in_default.ensures.value c.in_default-key_at.ensures.value c.in-Some-key_at-2.ensures.value c.in_ok-variable.ensures.tree c.in-Some-mark_at.ensures.value)
+returns-in-Some-key_at-2-clause-tree c = subst (λ r. ReadsOf decl_seen Declaration 0 (lexemes c.args.pieces.now) c.var.new.names c.args.from c.args.node r) (sym c.var_decl.ensures)
+    (var_decl_tree (within c.args.pieces.now c.args.from c.requires.within) (widen attrs_keep c.in_ok-variable.ensures.grows c.in_ok-attrs.ensures.tree) c.in_default.ensures.value
+    c.in_default-key_at.ensures.value c.in-Some-key_at-2.ensures.value c.in_ok-variable.ensures.tree c.in-Some-mark_at.ensures.value)
 
 pub returns-then-not-is_empty-clause-tree : goal.returns-then-not-is_empty-clause-tree
-returns-then-not-is_empty-clause-tree c = fails_here Declaration 0 (lexemes c.args.pieces.now) c.args.names.now c.attributes.new.names c.args.from c.in_ok-attrs.attrs.end (omega (arith, c.in_ok-attrs.ensures.names)) (decl_stuck (within c.args.pieces.now c.args.from c.requires.within) c.in_ok-attrs.ensures.tree.reads c.in_default.ensures.value c.in_default-key_at.ensures.value c.in_default-key_at-2.ensures.value (no_attrs c.attributes.new.names _ c.if-not-is_empty.ensures))
+returns-then-not-is_empty-clause-tree c = fails_here Declaration 0 (lexemes c.args.pieces.now) c.args.names.now c.attributes.new.names c.args.from c.in_ok-attrs.attrs.end
+    (omega (arith, c.in_ok-attrs.ensures.names))
+    (decl_stuck (within c.args.pieces.now c.args.from c.requires.within) c.in_ok-attrs.ensures.tree.reads c.in_default.ensures.value c.in_default-key_at.ensures.value
+    c.in_default-key_at-2.ensures.value (no_attrs c.attributes.new.names _ c.if-not-is_empty.ensures))
 
 pub returns-clause-tree : goal.returns-clause-tree
-returns-clause-tree c = answers c.plain.result (λ r. ReadsOf decl_seen (Headed PlainAt) 0 (lexemes c.args.pieces.now) c.plain.new.names c.in_ok-attrs.attrs.end c.in_ok-attrs.attrs.node r) (λ r. ReadsOf decl_seen Declaration 0 (lexemes c.args.pieces.now) c.plain.new.names c.args.from c.args.node r) (λ f. Faults (Headed PlainAt) 0 (lexemes c.args.pieces.now) c.attributes.new.names c.plain.new.names c.in_ok-attrs.attrs.end f) (λ f. Faults Declaration 0 (lexemes c.args.pieces.now) c.args.names.now c.plain.new.names c.args.from f) (λ r x. decl_plain_tree (within c.args.pieces.now c.args.from c.requires.within) (widen attrs_keep c.plain.ensures.grows c.in_ok-attrs.ensures.tree) c.in_default.ensures.value c.in_default-key_at.ensures.value c.in_default-key_at-2.ensures.value (c.if-not-is_empty.ensures.0 refl) x) (λ f x. fault_on Declaration (Headed PlainAt) 0 0 (lexemes c.args.pieces.now) c.args.names.now c.attributes.new.names c.plain.new.names c.args.from c.in_ok-attrs.attrs.end f (omega (arith, c.in_ok-attrs.ensures.names)) (λ to g. decl_plain_fails (within c.args.pieces.now c.args.from c.requires.within) c.in_ok-attrs.ensures.tree.reads c.in_default.ensures.value c.in_default-key_at.ensures.value c.in_default-key_at-2.ensures.value (ap (attr_shapes c.attributes.new.names) (c.if-not-is_empty.ensures.0 refl)) g) x) c.plain.ensures.tree
+returns-clause-tree c = answers c.plain.result (λ r. ReadsOf decl_seen (Headed PlainAt) 0 (lexemes c.args.pieces.now) c.plain.new.names c.in_ok-attrs.attrs.end c.in_ok-attrs.attrs.node r)
+    (λ r. ReadsOf decl_seen Declaration 0 (lexemes c.args.pieces.now) c.plain.new.names c.args.from c.args.node r)
+    (λ f. Faults (Headed PlainAt) 0 (lexemes c.args.pieces.now) c.attributes.new.names c.plain.new.names c.in_ok-attrs.attrs.end f)
+    (λ f. Faults Declaration 0 (lexemes c.args.pieces.now) c.args.names.now c.plain.new.names c.args.from f)
+    (λ r x. decl_plain_tree (within c.args.pieces.now c.args.from c.requires.within) (widen attrs_keep c.plain.ensures.grows c.in_ok-attrs.ensures.tree) c.in_default.ensures.value
+    c.in_default-key_at.ensures.value c.in_default-key_at-2.ensures.value (c.if-not-is_empty.ensures.0 refl) x)
+    (λ f x. fault_on Declaration (Headed PlainAt) 0 0 (lexemes c.args.pieces.now) c.args.names.now c.attributes.new.names c.plain.new.names c.args.from c.in_ok-attrs.attrs.end f
+    (omega (arith, c.in_ok-attrs.ensures.names))
+    (λ to g. decl_plain_fails (within c.args.pieces.now c.args.from c.requires.within) c.in_ok-attrs.ensures.tree.reads c.in_default.ensures.value c.in_default-key_at.ensures.value
+    c.in_default-key_at-2.ensures.value (ap (attr_shapes c.attributes.new.names) (c.if-not-is_empty.ensures.0 refl)) g) x) c.plain.ensures.tree
 
 pub function-requires-clause-within : goal.function-requires-clause-within
 function-requires-clause-within c = omega (arith, c.in-Some.ensures.within)
@@ -64,17 +100,28 @@ pub returns-in-Some-clause-grows : goal.returns-in-Some-clause-grows
 returns-in-Some-clause-grows c = grows_trans _ _ _ c.in_ok-attrs.ensures.grows c.in_ok-body.ensures.grows
 
 pub returns-in-Some-clause-further : goal.returns-in-Some-clause-further
-returns-in-Some-clause-further c = let end : c.fn_decl.result.end ≡ c.in_ok-body.body.end = ap (λ y. y.end) c.fn_decl.ensures in let node : c.fn_decl.result.node ≡ c.in_ok-body.body.node + 1 = ap (λ y. y.node) c.fn_decl.ensures in
+returns-in-Some-clause-further c =
+    let end : c.fn_decl.result.end ≡ c.in_ok-body.body.end = ap (λ y. y.end) c.fn_decl.ensures in
+    let node : c.fn_decl.result.node ≡ c.in_ok-body.body.node + 1 = ap (λ y. y.node) c.fn_decl.ensures in
     omega (arith, c.in_ok-attrs.ensures.further, c.in_ok-body.ensures.further)
 
 pub returns-in-Some-clause-within : goal.returns-in-Some-clause-within
-returns-in-Some-clause-within c = let end : c.fn_decl.result.end ≡ c.in_ok-body.body.end = ap (λ y. y.end) c.fn_decl.ensures in let node : c.fn_decl.result.node ≡ c.in_ok-body.body.node + 1 = ap (λ y. y.node) c.fn_decl.ensures in omega (arith, c.in_ok-body.ensures.within)
+returns-in-Some-clause-within c =
+    let end : c.fn_decl.result.end ≡ c.in_ok-body.body.end = ap (λ y. y.end) c.fn_decl.ensures in
+    let node : c.fn_decl.result.node ≡ c.in_ok-body.body.node + 1 = ap (λ y. y.node) c.fn_decl.ensures in
+    omega (arith, c.in_ok-body.ensures.within)
 
 pub returns-in-Some-clause-node : goal.returns-in-Some-clause-node
-returns-in-Some-clause-node c = let end : c.fn_decl.result.end ≡ c.in_ok-body.body.end = ap (λ y. y.end) c.fn_decl.ensures in let node : c.fn_decl.result.node ≡ c.in_ok-body.body.node + 1 = ap (λ y. y.node) c.fn_decl.ensures in omega (arith, c.in_ok-attrs.ensures.node, c.in_ok-body.ensures.node)
+returns-in-Some-clause-node c =
+    let end : c.fn_decl.result.end ≡ c.in_ok-body.body.end = ap (λ y. y.end) c.fn_decl.ensures in
+    let node : c.fn_decl.result.node ≡ c.in_ok-body.body.node + 1 = ap (λ y. y.node) c.fn_decl.ensures in
+    omega (arith, c.in_ok-attrs.ensures.node, c.in_ok-body.ensures.node)
 
 pub returns-in-Some-clause-names : goal.returns-in-Some-clause-names
-returns-in-Some-clause-names c = let end : c.fn_decl.result.end ≡ c.in_ok-body.body.end = ap (λ y. y.end) c.fn_decl.ensures in let node : c.fn_decl.result.node ≡ c.in_ok-body.body.node + 1 = ap (λ y. y.node) c.fn_decl.ensures in omega (arith, c.in_ok-attrs.ensures.names, c.in_ok-body.ensures.names)
+returns-in-Some-clause-names c =
+    let end : c.fn_decl.result.end ≡ c.in_ok-body.body.end = ap (λ y. y.end) c.fn_decl.ensures in
+    let node : c.fn_decl.result.node ≡ c.in_ok-body.body.node + 1 = ap (λ y. y.node) c.fn_decl.ensures in
+    omega (arith, c.in_ok-attrs.ensures.names, c.in_ok-body.ensures.names)
 
 pub overridable-requires-clause-within : goal.overridable-requires-clause-within
 overridable-requires-clause-within c = omega (arith, c.in-Some-key_at.ensures.within)
@@ -92,19 +139,27 @@ pub returns-in-Some-key_at-clause-grows : goal.returns-in-Some-key_at-clause-gro
 returns-in-Some-key_at-clause-grows c = grows_trans _ _ _ c.in_ok-attrs.ensures.grows c.in_ok-body-2.ensures.grows
 
 pub returns-in-Some-key_at-clause-further : goal.returns-in-Some-key_at-clause-further
-returns-in-Some-key_at-clause-further c = let end : c.override_decl.result.end ≡ c.in_ok-body-2.body.end = ap (λ y. y.end) c.override_decl.ensures in let node : c.override_decl.result.node ≡ c.in_ok-body-2.body.node + 1 = ap (λ y. y.node) c.override_decl.ensures in
+returns-in-Some-key_at-clause-further c =
+    let end : c.override_decl.result.end ≡ c.in_ok-body-2.body.end = ap (λ y. y.end) c.override_decl.ensures in
+    let node : c.override_decl.result.node ≡ c.in_ok-body-2.body.node + 1 = ap (λ y. y.node) c.override_decl.ensures in
     omega (arith, c.in_ok-attrs.ensures.further, c.in_ok-body-2.ensures.further)
 
 pub returns-in-Some-key_at-clause-within : goal.returns-in-Some-key_at-clause-within
-returns-in-Some-key_at-clause-within c = let end : c.override_decl.result.end ≡ c.in_ok-body-2.body.end = ap (λ y. y.end) c.override_decl.ensures in let node : c.override_decl.result.node ≡ c.in_ok-body-2.body.node + 1 = ap (λ y. y.node) c.override_decl.ensures in
+returns-in-Some-key_at-clause-within c =
+    let end : c.override_decl.result.end ≡ c.in_ok-body-2.body.end = ap (λ y. y.end) c.override_decl.ensures in
+    let node : c.override_decl.result.node ≡ c.in_ok-body-2.body.node + 1 = ap (λ y. y.node) c.override_decl.ensures in
     omega (arith, c.in_ok-body-2.ensures.within)
 
 pub returns-in-Some-key_at-clause-node : goal.returns-in-Some-key_at-clause-node
-returns-in-Some-key_at-clause-node c = let end : c.override_decl.result.end ≡ c.in_ok-body-2.body.end = ap (λ y. y.end) c.override_decl.ensures in let node : c.override_decl.result.node ≡ c.in_ok-body-2.body.node + 1 = ap (λ y. y.node) c.override_decl.ensures in
+returns-in-Some-key_at-clause-node c =
+    let end : c.override_decl.result.end ≡ c.in_ok-body-2.body.end = ap (λ y. y.end) c.override_decl.ensures in
+    let node : c.override_decl.result.node ≡ c.in_ok-body-2.body.node + 1 = ap (λ y. y.node) c.override_decl.ensures in
     omega (arith, c.in_ok-attrs.ensures.node, c.in_ok-body-2.ensures.node)
 
 pub returns-in-Some-key_at-clause-names : goal.returns-in-Some-key_at-clause-names
-returns-in-Some-key_at-clause-names c = let end : c.override_decl.result.end ≡ c.in_ok-body-2.body.end = ap (λ y. y.end) c.override_decl.ensures in let node : c.override_decl.result.node ≡ c.in_ok-body-2.body.node + 1 = ap (λ y. y.node) c.override_decl.ensures in
+returns-in-Some-key_at-clause-names c =
+    let end : c.override_decl.result.end ≡ c.in_ok-body-2.body.end = ap (λ y. y.end) c.override_decl.ensures in
+    let node : c.override_decl.result.node ≡ c.in_ok-body-2.body.node + 1 = ap (λ y. y.node) c.override_decl.ensures in
     omega (arith, c.in_ok-attrs.ensures.names, c.in_ok-body-2.ensures.names)
 
 pub var-requires-clause-within : goal.var-requires-clause-within
@@ -126,17 +181,25 @@ pub returns-in-Some-key_at-2-clause-grows : goal.returns-in-Some-key_at-2-clause
 returns-in-Some-key_at-2-clause-grows c = grows_trans _ _ _ c.in_ok-attrs.ensures.grows c.in_ok-variable.ensures.grows
 
 pub returns-in-Some-key_at-2-clause-further : goal.returns-in-Some-key_at-2-clause-further
-returns-in-Some-key_at-2-clause-further c = let end : c.var_decl.result.end ≡ c.in_ok-variable.variable.end + 1 = ap (λ y. y.end) c.var_decl.ensures in let node : c.var_decl.result.node ≡ c.in_ok-variable.variable.node + 1 = ap (λ y. y.node) c.var_decl.ensures in
+returns-in-Some-key_at-2-clause-further c =
+    let end : c.var_decl.result.end ≡ c.in_ok-variable.variable.end + 1 = ap (λ y. y.end) c.var_decl.ensures in
+    let node : c.var_decl.result.node ≡ c.in_ok-variable.variable.node + 1 = ap (λ y. y.node) c.var_decl.ensures in
     omega (arith, c.in_ok-attrs.ensures.further, c.in_ok-variable.ensures.further)
 
 pub returns-in-Some-key_at-2-clause-within : goal.returns-in-Some-key_at-2-clause-within
-returns-in-Some-key_at-2-clause-within c = let end : c.var_decl.result.end ≡ c.in_ok-variable.variable.end + 1 = ap (λ y. y.end) c.var_decl.ensures in let node : c.var_decl.result.node ≡ c.in_ok-variable.variable.node + 1 = ap (λ y. y.node) c.var_decl.ensures in
+returns-in-Some-key_at-2-clause-within c =
+    let end : c.var_decl.result.end ≡ c.in_ok-variable.variable.end + 1 = ap (λ y. y.end) c.var_decl.ensures in
+    let node : c.var_decl.result.node ≡ c.in_ok-variable.variable.node + 1 = ap (λ y. y.node) c.var_decl.ensures in
     omega (arith, c.in-Some-mark_at.ensures.within)
 
 pub returns-in-Some-key_at-2-clause-node : goal.returns-in-Some-key_at-2-clause-node
-returns-in-Some-key_at-2-clause-node c = let end : c.var_decl.result.end ≡ c.in_ok-variable.variable.end + 1 = ap (λ y. y.end) c.var_decl.ensures in let node : c.var_decl.result.node ≡ c.in_ok-variable.variable.node + 1 = ap (λ y. y.node) c.var_decl.ensures in
+returns-in-Some-key_at-2-clause-node c =
+    let end : c.var_decl.result.end ≡ c.in_ok-variable.variable.end + 1 = ap (λ y. y.end) c.var_decl.ensures in
+    let node : c.var_decl.result.node ≡ c.in_ok-variable.variable.node + 1 = ap (λ y. y.node) c.var_decl.ensures in
     omega (arith, c.in_ok-attrs.ensures.node, c.in_ok-variable.ensures.node)
 
 pub returns-in-Some-key_at-2-clause-names : goal.returns-in-Some-key_at-2-clause-names
-returns-in-Some-key_at-2-clause-names c = let end : c.var_decl.result.end ≡ c.in_ok-variable.variable.end + 1 = ap (λ y. y.end) c.var_decl.ensures in let node : c.var_decl.result.node ≡ c.in_ok-variable.variable.node + 1 = ap (λ y. y.node) c.var_decl.ensures in
+returns-in-Some-key_at-2-clause-names c =
+    let end : c.var_decl.result.end ≡ c.in_ok-variable.variable.end + 1 = ap (λ y. y.end) c.var_decl.ensures in
+    let node : c.var_decl.result.node ≡ c.in_ok-variable.variable.node + 1 = ap (λ y. y.node) c.var_decl.ensures in
     omega (arith, c.in_ok-attrs.ensures.names, c.in_ok-variable.ensures.names)

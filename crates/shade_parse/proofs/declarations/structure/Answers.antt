@@ -15,13 +15,21 @@ use Rattle.shade_parse.proofs.DeclarationTrees.{struct_tree}
 use Rattle.shade_parse.proofs.declarations.structure.Goals as goal
 
 pub returns-in_err-name-clause-tree : goal.returns-in_err-name-clause-tree
-returns-in_err-name-clause-tree c = errs _ c.in_err-name.field-0.0 _ _ c.from_residual.ensures.1 (fault_on (StructRest c.args.place) Name 0 0 (lexemes c.args.pieces.now) c.args.names.now c.args.names.now _ c.args.from c.args.from c.in_err-name.field-0.0 (omega arith) (λ to f. struct_name_fails c.args.place some_members (within c.args.pieces.now c.args.from c.requires.within) f) c.in_err-name.ensures.tree)
+returns-in_err-name-clause-tree c = errs _ c.in_err-name.field-0.0 _ _ c.from_residual.ensures.1
+    (fault_on (StructRest c.args.place) Name 0 0 (lexemes c.args.pieces.now) c.args.names.now c.args.names.now _ c.args.from c.args.from c.in_err-name.field-0.0 (omega arith)
+    (λ to f. struct_name_fails c.args.place some_members (within c.args.pieces.now c.args.from c.requires.within) f) c.in_err-name.ensures.tree)
 
 pub returns-in_default-clause-tree : goal.returns-in_default-clause-tree
-returns-in_default-clause-tree c = fails_here (StructRest c.args.place) 0 (lexemes c.args.pieces.now) c.args.names.now c.name.new.names c.args.from c.in_ok-name.name.end (omega (arith, c.in_ok-name.ensures.names)) (struct_stuck c.args.place some_members (within c.args.pieces.now c.args.from c.requires.within) c.in_ok-name.ensures.tree.reads c.in_default.ensures.value)
+returns-in_default-clause-tree c = fails_here (StructRest c.args.place) 0 (lexemes c.args.pieces.now) c.args.names.now c.name.new.names c.args.from c.in_ok-name.name.end
+    (omega (arith, c.in_ok-name.ensures.names))
+    (struct_stuck c.args.place some_members (within c.args.pieces.now c.args.from c.requires.within) c.in_ok-name.ensures.tree.reads c.in_default.ensures.value)
 
 pub returns-in_err-list-clause-tree : goal.returns-in_err-list-clause-tree
-returns-in_err-list-clause-tree c = errs _ c.in_err-list.field-0.0 _ _ c.from_residual-in_err-list.ensures.1 (fault_on (StructRest c.args.place) (Enclosed (Listed MemberOf) sign.CloseBrace) 0 0 (lexemes c.args.pieces.now) c.args.names.now c.name.new.names _ c.args.from (c.in_ok-name.name.end + 1) c.in_err-list.field-0.0 (omega (arith, c.in_ok-name.ensures.names)) (λ to f. struct_members_fail c.args.place some_members (within c.args.pieces.now c.args.from c.requires.within) c.in_ok-name.ensures.tree.reads _ c.in-Some.ensures.value f) c.in_err-list.ensures.tree)
+returns-in_err-list-clause-tree c = errs _ c.in_err-list.field-0.0 _ _ c.from_residual-in_err-list.ensures.1
+    (fault_on (StructRest c.args.place) (Enclosed (Listed MemberOf) sign.CloseBrace) 0 0 (lexemes c.args.pieces.now) c.args.names.now c.name.new.names _ c.args.from
+    (c.in_ok-name.name.end + 1) c.in_err-list.field-0.0 (omega (arith, c.in_ok-name.ensures.names))
+    (λ to f. struct_members_fail c.args.place some_members (within c.args.pieces.now c.args.from c.requires.within) c.in_ok-name.ensures.tree.reads _ c.in-Some.ensures.value f)
+    c.in_err-list.ensures.tree)
 
 pub returns-clause-tree : goal.returns-clause-tree
 returns-clause-tree c = struct_tree (within c.args.pieces.now c.args.from c.requires.within) (widen named_keeps c.in_ok-list.ensures.grows c.in_ok-name.ensures.tree) c.in-Some.ensures.value c.in_ok-list.ensures.tree

@@ -17,22 +17,39 @@ pub returns-in_default-clause-tree : goal.returns-in_default-clause-tree
 returns-in_default-clause-tree c = fails_here (DiagnosticRest c.args.place) 0 (lexemes c.args.pieces.now) c.args.names.now c.args.names.now c.args.from c.args.from (omega arith) (diagnostic_open c.args.place (within c.args.pieces.now c.args.from c.requires.within) c.in_default.ensures.value)
 
 pub returns-in_err-severity-clause-tree : goal.returns-in_err-severity-clause-tree
-returns-in_err-severity-clause-tree c = errs _ c.in_err-severity.field-0.0 _ _ c.from_residual.ensures.1 (fault_on (DiagnosticRest c.args.place) Name 0 0 (lexemes c.args.pieces.now) c.args.names.now c.args.names.now _ c.args.from (c.args.from + 1) c.in_err-severity.field-0.0 (omega arith) (λ to f. diagnostic_name_fails c.args.place (within c.args.pieces.now c.args.from c.requires.within) _ c.in-Some.ensures.value f) c.in_err-severity.ensures.tree)
+returns-in_err-severity-clause-tree c = errs _ c.in_err-severity.field-0.0 _ _ c.from_residual.ensures.1
+    (fault_on (DiagnosticRest c.args.place) Name 0 0 (lexemes c.args.pieces.now) c.args.names.now c.args.names.now _ c.args.from (c.args.from + 1) c.in_err-severity.field-0.0 (omega arith)
+    (λ to f. diagnostic_name_fails c.args.place (within c.args.pieces.now c.args.from c.requires.within) _ c.in-Some.ensures.value f) c.in_err-severity.ensures.tree)
 
 pub returns-in_default-mark_at-clause-tree : goal.returns-in_default-mark_at-clause-tree
-returns-in_default-mark_at-clause-tree c = fails_here (DiagnosticRest c.args.place) 0 (lexemes c.args.pieces.now) c.args.names.now c.name.new.names c.args.from c.in_ok-severity.severity.end (omega (arith, c.in_ok-severity.ensures.names)) (diagnostic_comma c.args.place (within c.args.pieces.now c.args.from c.requires.within) _ c.in-Some.ensures.value c.in_ok-severity.ensures.tree.reads c.in_default-mark_at.ensures.value)
+returns-in_default-mark_at-clause-tree c = fails_here (DiagnosticRest c.args.place) 0 (lexemes c.args.pieces.now) c.args.names.now c.name.new.names c.args.from c.in_ok-severity.severity.end
+    (omega (arith, c.in_ok-severity.ensures.names))
+    (diagnostic_comma c.args.place (within c.args.pieces.now c.args.from c.requires.within) _ c.in-Some.ensures.value c.in_ok-severity.ensures.tree.reads c.in_default-mark_at.ensures.value)
 
 pub returns-in_err-rule-clause-tree : goal.returns-in_err-rule-clause-tree
-returns-in_err-rule-clause-tree c = errs _ c.in_err-rule.field-0.0 _ _ c.from_residual-in_err-rule.ensures.1 (fault_on (DiagnosticRest c.args.place) RuleOf 0 2 (lexemes c.args.pieces.now) c.args.names.now c.name.new.names _ c.args.from (c.in_ok-severity.severity.end + 1) c.in_err-rule.field-0.0 (omega (arith, c.in_ok-severity.ensures.names)) (λ to f. diagnostic_rule_fails c.args.place (within c.args.pieces.now c.args.from c.requires.within) _ c.in-Some.ensures.value c.in_ok-severity.ensures.tree.reads _ c.in-Some-mark_at.ensures.value f) c.in_err-rule.ensures.tree)
+returns-in_err-rule-clause-tree c = errs _ c.in_err-rule.field-0.0 _ _ c.from_residual-in_err-rule.ensures.1
+    (fault_on (DiagnosticRest c.args.place) RuleOf 0 2 (lexemes c.args.pieces.now) c.args.names.now c.name.new.names _ c.args.from (c.in_ok-severity.severity.end + 1) c.in_err-rule.field-0.0
+    (omega (arith, c.in_ok-severity.ensures.names))
+    (λ to f. diagnostic_rule_fails c.args.place (within c.args.pieces.now c.args.from c.requires.within) _ c.in-Some.ensures.value c.in_ok-severity.ensures.tree.reads _
+    c.in-Some-mark_at.ensures.value f) c.in_err-rule.ensures.tree)
 
 pub returns-in_err-trailing-clause-tree : goal.returns-in_err-trailing-clause-tree
-returns-in_err-trailing-clause-tree c = errs _ c.in_err-trailing.field-0.0 _ _ c.from_residual-in_err-trailing.ensures.1 (fault_plain (DiagnosticRest c.args.place) (Ending sign.Close) 0 0 (lexemes c.args.pieces.now) c.args.names.now _ c.args.from c.in_ok-rule.rule.end c.in_err-trailing.field-0.0 (omega (arith, c.in_ok-severity.ensures.names, c.in_ok-rule.ensures.names)) (within c.args.pieces.now c.in_ok-rule.rule.end c.in_ok-rule.ensures.within) (λ to f. diagnostic_ending_fails c.args.place (within c.args.pieces.now c.args.from c.requires.within) _ c.in-Some.ensures.value c.in_ok-severity.ensures.tree.reads _ c.in-Some-mark_at.ensures.value c.in_ok-rule.ensures.tree.reads f) c.in_err-trailing.ensures.tree)
+returns-in_err-trailing-clause-tree c = errs _ c.in_err-trailing.field-0.0 _ _ c.from_residual-in_err-trailing.ensures.1
+    (fault_plain (DiagnosticRest c.args.place) (Ending sign.Close) 0 0 (lexemes c.args.pieces.now) c.args.names.now _ c.args.from c.in_ok-rule.rule.end c.in_err-trailing.field-0.0
+    (omega (arith, c.in_ok-severity.ensures.names, c.in_ok-rule.ensures.names)) (within c.args.pieces.now c.in_ok-rule.rule.end c.in_ok-rule.ensures.within)
+    (λ to f. diagnostic_ending_fails c.args.place (within c.args.pieces.now c.args.from c.requires.within) _ c.in-Some.ensures.value c.in_ok-severity.ensures.tree.reads _
+    c.in-Some-mark_at.ensures.value c.in_ok-rule.ensures.tree.reads f) c.in_err-trailing.ensures.tree)
 
 pub returns-in_default-mark_at-2-clause-tree : goal.returns-in_default-mark_at-2-clause-tree
-returns-in_default-mark_at-2-clause-tree c = fails_here (DiagnosticRest c.args.place) 0 (lexemes c.args.pieces.now) c.args.names.now c.rule.new.names c.args.from c.in_ok-trailing.end (omega (arith, c.in_ok-severity.ensures.names, c.in_ok-rule.ensures.names, c.in_ok-trailing.ensures.further)) (diagnostic_stuck c.args.place (within c.args.pieces.now c.args.from c.requires.within) _ c.in-Some.ensures.value c.in_ok-severity.ensures.tree.reads _ c.in-Some-mark_at.ensures.value c.in_ok-rule.ensures.tree.reads c.in_ok-trailing.ensures.tree c.in_default-mark_at-2.ensures.value)
+returns-in_default-mark_at-2-clause-tree c = fails_here (DiagnosticRest c.args.place) 0 (lexemes c.args.pieces.now) c.args.names.now c.rule.new.names c.args.from c.in_ok-trailing.end
+    (omega (arith, c.in_ok-severity.ensures.names, c.in_ok-rule.ensures.names, c.in_ok-trailing.ensures.further))
+    (diagnostic_stuck c.args.place (within c.args.pieces.now c.args.from c.requires.within) _ c.in-Some.ensures.value c.in_ok-severity.ensures.tree.reads _ c.in-Some-mark_at.ensures.value
+    c.in_ok-rule.ensures.tree.reads c.in_ok-trailing.ensures.tree c.in_default-mark_at-2.ensures.value)
 
 pub returns-clause-tree : goal.returns-clause-tree
-returns-clause-tree c = diagnostic_tree (within c.args.pieces.now c.args.from c.requires.within) c.in-Some.ensures.value (widen named_keeps c.in_ok-rule.ensures.grows c.in_ok-severity.ensures.tree) c.in-Some-mark_at.ensures.value c.in_ok-rule.ensures.tree c.in_ok-trailing.ensures.tree c.in-Some-mark_at-2.ensures.value
+returns-clause-tree c = diagnostic_tree (within c.args.pieces.now c.args.from c.requires.within) c.in-Some.ensures.value
+    (widen named_keeps c.in_ok-rule.ensures.grows c.in_ok-severity.ensures.tree) c.in-Some-mark_at.ensures.value c.in_ok-rule.ensures.tree c.in_ok-trailing.ensures.tree
+    c.in-Some-mark_at-2.ensures.value
 
 pub rule-requires-clause-within : goal.rule-requires-clause-within
 rule-requires-clause-within c = omega (arith, c.in-Some-mark_at.ensures.within)

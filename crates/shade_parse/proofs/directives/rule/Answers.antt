@@ -11,13 +11,18 @@ use Rattle.shade_parse.proofs.DirectiveTrees.{plain_tree, scoped_tree}
 use Rattle.shade_parse.proofs.directives.rule.Goals as goal
 
 pub returns-in_err-first-clause-tree : goal.returns-in_err-first-clause-tree
-returns-in_err-first-clause-tree c = errs _ c.in_err-first.field-0.0 _ _ c.from_residual.ensures.1 (fault_on RuleOf Name 2 0 (lexemes c.args.pieces.now) c.args.names.now c.args.names.now _ c.args.from c.args.from c.in_err-first.field-0.0 (omega arith) (λ to f. rule_name_fails (within c.args.pieces.now c.args.from c.requires.within) f) c.in_err-first.ensures.tree)
+returns-in_err-first-clause-tree c = errs _ c.in_err-first.field-0.0 _ _ c.from_residual.ensures.1
+    (fault_on RuleOf Name 2 0 (lexemes c.args.pieces.now) c.args.names.now c.args.names.now _ c.args.from c.args.from c.in_err-first.field-0.0 (omega arith)
+    (λ to f. rule_name_fails (within c.args.pieces.now c.args.from c.requires.within) f) c.in_err-first.ensures.tree)
 
 pub returns-in_default-clause-tree : goal.returns-in_default-clause-tree
 returns-in_default-clause-tree c = plain_tree (within c.args.pieces.now c.args.from c.requires.within) c.in_ok-first.ensures.tree c.in_default.ensures.value
 
 pub returns-in_err-name-clause-tree : goal.returns-in_err-name-clause-tree
-returns-in_err-name-clause-tree c = errs _ c.in_err-name.field-0.0 _ _ c.from_residual-in_err-name.ensures.1 (fault_on RuleOf Name 2 0 (lexemes c.args.pieces.now) c.args.names.now c.name.new.names _ c.args.from (c.in_ok-first.first.end + 1) c.in_err-name.field-0.0 (omega (arith, c.in_ok-first.ensures.names)) (λ to f. rule_second_fails (within c.args.pieces.now c.args.from c.requires.within) c.in_ok-first.ensures.tree.reads _ c.in-Some.ensures.value f) c.in_err-name.ensures.tree)
+returns-in_err-name-clause-tree c = errs _ c.in_err-name.field-0.0 _ _ c.from_residual-in_err-name.ensures.1
+    (fault_on RuleOf Name 2 0 (lexemes c.args.pieces.now) c.args.names.now c.name.new.names _ c.args.from (c.in_ok-first.first.end + 1) c.in_err-name.field-0.0
+    (omega (arith, c.in_ok-first.ensures.names))
+    (λ to f. rule_second_fails (within c.args.pieces.now c.args.from c.requires.within) c.in_ok-first.ensures.tree.reads _ c.in-Some.ensures.value f) c.in_err-name.ensures.tree)
 
 pub returns-clause-tree : goal.returns-clause-tree
 returns-clause-tree c = scoped_tree (within c.args.pieces.now c.args.from c.requires.within) (widen named_keeps c.in_ok-name.ensures.grows c.in_ok-first.ensures.tree) c.in-Some.ensures.value c.in_ok-name.ensures.tree

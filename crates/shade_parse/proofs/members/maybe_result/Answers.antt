@@ -16,13 +16,23 @@ use Rattle.shade_parse.proofs.MemberTrees.{result_tree}
 use Rattle.shade_parse.proofs.members.maybe_result.Goals as goal
 
 pub returns-in_err-attrs-clause-tree : goal.returns-in_err-attrs-clause-tree
-returns-in_err-attrs-clause-tree c = errs _ c.in_err-attrs.field-0.0 _ _ c.from_residual.ensures.1 (fault_in ResultOf (Many Attribute) 0 8 (lexemes c.args.pieces.now) c.args.names.now c.args.names.now _ c.args.from (c.args.from + 1) (omega arith) (Mark sign.Arrow) (_, c.in-Some.ensures.value) (omega arith) c.in_err-attrs.field-0.0 (λ to f. opened_fails result_opens (omega arith) (within c.args.pieces.now c.args.from c.requires.within) (λ p. refl) _ c.in-Some.ensures.value (result_attrs_fail (within c.args.pieces.now (c.args.from + 1) (omega (arith, c.in-Some.ensures.within))) f)) c.in_err-attrs.ensures.tree)
+returns-in_err-attrs-clause-tree c = errs _ c.in_err-attrs.field-0.0 _ _ c.from_residual.ensures.1
+    (fault_in ResultOf (Many Attribute) 0 8 (lexemes c.args.pieces.now) c.args.names.now c.args.names.now _ c.args.from (c.args.from + 1) (omega arith) (Mark sign.Arrow)
+    (_, c.in-Some.ensures.value) (omega arith) c.in_err-attrs.field-0.0
+    (λ to f. opened_fails result_opens (omega arith) (within c.args.pieces.now c.args.from c.requires.within) (λ p. refl) _ c.in-Some.ensures.value
+    (result_attrs_fail (within c.args.pieces.now (c.args.from + 1) (omega (arith, c.in-Some.ensures.within))) f)) c.in_err-attrs.ensures.tree)
 
 pub returns-in_err-ty-clause-tree : goal.returns-in_err-ty-clause-tree
-returns-in_err-ty-clause-tree c = errs _ c.in_err-ty.field-0.0 _ _ c.from_residual-in_err-ty.ensures.1 (fault_in ResultOf TypeName 0 0 (lexemes c.args.pieces.now) c.args.names.now c.attributes.new.names _ c.args.from c.in_ok-attrs.attrs.end (omega (arith, c.in_ok-attrs.ensures.names)) (Mark sign.Arrow) (_, c.in-Some.ensures.value) (omega (arith, c.in_ok-attrs.ensures.further)) c.in_err-ty.field-0.0 (λ to f. opened_fails result_opens (omega arith) (within c.args.pieces.now c.args.from c.requires.within) (λ p. refl) _ c.in-Some.ensures.value (result_type_fails (within c.args.pieces.now (c.args.from + 1) (omega (arith, c.in-Some.ensures.within))) c.in_ok-attrs.ensures.tree.reads f)) c.in_err-ty.ensures.tree)
+returns-in_err-ty-clause-tree c = errs _ c.in_err-ty.field-0.0 _ _ c.from_residual-in_err-ty.ensures.1
+    (fault_in ResultOf TypeName 0 0 (lexemes c.args.pieces.now) c.args.names.now c.attributes.new.names _ c.args.from c.in_ok-attrs.attrs.end (omega (arith, c.in_ok-attrs.ensures.names))
+    (Mark sign.Arrow) (_, c.in-Some.ensures.value) (omega (arith, c.in_ok-attrs.ensures.further)) c.in_err-ty.field-0.0
+    (λ to f. opened_fails result_opens (omega arith) (within c.args.pieces.now c.args.from c.requires.within) (λ p. refl) _ c.in-Some.ensures.value
+    (result_type_fails (within c.args.pieces.now (c.args.from + 1) (omega (arith, c.in-Some.ensures.within))) c.in_ok-attrs.ensures.tree.reads f)) c.in_err-ty.ensures.tree)
 
 pub returns-clause-tree : goal.returns-clause-tree
-returns-clause-tree c = result_tree (within c.args.pieces.now c.args.from c.requires.within) c.in-Some.ensures.value (within c.args.pieces.now (c.args.from + 1) (omega (arith, c.in-Some.ensures.within))) (omega (arith, c.in_ok-attrs.ensures.further, c.in_ok-ty.ensures.further)) (widen attrs_keep c.in_ok-ty.ensures.grows c.in_ok-attrs.ensures.tree) (part_reads c.in_ok-ty.ensures.tree)
+returns-clause-tree c = result_tree (within c.args.pieces.now c.args.from c.requires.within) c.in-Some.ensures.value
+    (within c.args.pieces.now (c.args.from + 1) (omega (arith, c.in-Some.ensures.within))) (omega (arith, c.in_ok-attrs.ensures.further, c.in_ok-ty.ensures.further))
+    (widen attrs_keep c.in_ok-ty.ensures.grows c.in_ok-attrs.ensures.tree) (part_reads c.in_ok-ty.ensures.tree)
 
 pub type_name-requires-clause-within : goal.type_name-requires-clause-within
 type_name-requires-clause-within c = omega (arith, c.in_ok-attrs.ensures.within)

@@ -12,16 +12,27 @@ use Rattle.shade_parse.proofs.MemberTrees.{member_tree}
 use Rattle.shade_parse.proofs.members.member.Goals as goal
 
 pub returns-in_err-attrs-clause-tree : goal.returns-in_err-attrs-clause-tree
-returns-in_err-attrs-clause-tree c = errs _ c.in_err-attrs.field-0.0 _ _ c.from_residual.ensures.1 (fault_on MemberOf (Many Attribute) 0 8 (lexemes c.args.pieces.now) c.args.names.now c.args.names.now _ c.args.from c.args.from c.in_err-attrs.field-0.0 (omega arith) (λ to f. member_attrs_fail (within c.args.pieces.now c.args.from c.requires.within) f) c.in_err-attrs.ensures.tree)
+returns-in_err-attrs-clause-tree c = errs _ c.in_err-attrs.field-0.0 _ _ c.from_residual.ensures.1
+    (fault_on MemberOf (Many Attribute) 0 8 (lexemes c.args.pieces.now) c.args.names.now c.args.names.now _ c.args.from c.args.from c.in_err-attrs.field-0.0 (omega arith)
+    (λ to f. member_attrs_fail (within c.args.pieces.now c.args.from c.requires.within) f) c.in_err-attrs.ensures.tree)
 
 pub returns-in_err-name-clause-tree : goal.returns-in_err-name-clause-tree
-returns-in_err-name-clause-tree c = errs _ c.in_err-name.field-0.0 _ _ c.from_residual-in_err-name.ensures.1 (fault_on MemberOf Name 0 0 (lexemes c.args.pieces.now) c.args.names.now c.attributes.new.names _ c.args.from c.in_ok-attrs.attrs.end c.in_err-name.field-0.0 (omega (arith, c.in_ok-attrs.ensures.names)) (λ to f. member_name_fails (within c.args.pieces.now c.args.from c.requires.within) c.in_ok-attrs.ensures.tree.reads f) c.in_err-name.ensures.tree)
+returns-in_err-name-clause-tree c = errs _ c.in_err-name.field-0.0 _ _ c.from_residual-in_err-name.ensures.1
+    (fault_on MemberOf Name 0 0 (lexemes c.args.pieces.now) c.args.names.now c.attributes.new.names _ c.args.from c.in_ok-attrs.attrs.end c.in_err-name.field-0.0
+    (omega (arith, c.in_ok-attrs.ensures.names)) (λ to f. member_name_fails (within c.args.pieces.now c.args.from c.requires.within) c.in_ok-attrs.ensures.tree.reads f)
+    c.in_err-name.ensures.tree)
 
 pub returns-in_err-ty-clause-tree : goal.returns-in_err-ty-clause-tree
-returns-in_err-ty-clause-tree c = errs _ c.in_err-ty.field-0.0 _ _ c.from_residual-in_err-ty.ensures.1 (fault_on MemberOf OfType 0 0 (lexemes c.args.pieces.now) c.args.names.now c.name.new.names _ c.args.from c.in_ok-name.name.end c.in_err-ty.field-0.0 (omega (arith, c.in_ok-attrs.ensures.names, c.in_ok-name.ensures.names)) (λ to f. member_type_fails (within c.args.pieces.now c.args.from c.requires.within) (widen attrs_keep c.in_ok-name.ensures.grows c.in_ok-attrs.ensures.tree).reads c.in_ok-name.ensures.tree.reads f) c.in_err-ty.ensures.tree)
+returns-in_err-ty-clause-tree c = errs _ c.in_err-ty.field-0.0 _ _ c.from_residual-in_err-ty.ensures.1
+    (fault_on MemberOf OfType 0 0 (lexemes c.args.pieces.now) c.args.names.now c.name.new.names _ c.args.from c.in_ok-name.name.end c.in_err-ty.field-0.0
+    (omega (arith, c.in_ok-attrs.ensures.names, c.in_ok-name.ensures.names))
+    (λ to f. member_type_fails (within c.args.pieces.now c.args.from c.requires.within) (widen attrs_keep c.in_ok-name.ensures.grows c.in_ok-attrs.ensures.tree).reads
+    c.in_ok-name.ensures.tree.reads f) c.in_err-ty.ensures.tree)
 
 pub returns-clause-tree : goal.returns-clause-tree
-returns-clause-tree c = member_tree (within c.args.pieces.now c.args.from c.requires.within) c.first_place-place.ensures (widen attrs_keep (grows_trans _ _ _ c.in_ok-name.ensures.grows c.in_ok-ty.ensures.grows) c.in_ok-attrs.ensures.tree) (widen named_keeps c.in_ok-ty.ensures.grows c.in_ok-name.ensures.tree) c.in_ok-ty.ensures.tree
+returns-clause-tree c = member_tree (within c.args.pieces.now c.args.from c.requires.within) c.first_place-place.ensures
+    (widen attrs_keep (grows_trans _ _ _ c.in_ok-name.ensures.grows c.in_ok-ty.ensures.grows) c.in_ok-attrs.ensures.tree)
+    (widen named_keeps c.in_ok-ty.ensures.grows c.in_ok-name.ensures.tree) c.in_ok-ty.ensures.tree
 
 pub name-requires-clause-within : goal.name-requires-clause-within
 name-requires-clause-within c = omega (arith, c.in_ok-attrs.ensures.within)

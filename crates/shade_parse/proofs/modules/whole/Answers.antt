@@ -17,10 +17,12 @@ pub returns-in_err-read-clause-tree : goal.returns-in_err-read-clause-tree
 returns-in_err-read-clause-tree c = errs _ c.in_err-read.field-0.0 _ _ c.from_residual.ensures.1 (directive_fault c.directives.invariant _ c.in_err-read.field-0.0 (c.directives-test.ensures.value.0 refl) c.in_err-read.ensures.tree)
 
 pub directives-preserved : goal.directives-preserved
-directives-preserved c = directive_turn c.directives.invariant c.push.new.items c.in_ok-read.ensures.grows (c.directives-test.ensures.value.0 refl) c.in_ok-read.ensures.tree c.in_ok-push.ensures c.in_ok-read.ensures.further c.in_ok-read.ensures.within c.in_ok-read.ensures.node c.in_ok-read.ensures.names
+directives-preserved c = directive_turn c.directives.invariant c.push.new.items c.in_ok-read.ensures.grows (c.directives-test.ensures.value.0 refl) c.in_ok-read.ensures.tree
+    c.in_ok-push.ensures c.in_ok-read.ensures.further c.in_ok-read.ensures.within c.in_ok-read.ensures.node c.in_ok-read.ensures.names
 
 pub decls-init : goal.decls-init
-decls-init c = subst (λ ds. DeclTurn (lexemes c.args.pieces.now) (length c.args.pieces.now) c.directives.names ds c.new-decls.result c.directives.node c.directives.at c.directives.node) (sym c.directives-2.view_is) (decls_first c.directives.invariant c.new-decls.ensures (isnt c.directives-test.ensures.value))
+decls-init c = subst (λ ds. DeclTurn (lexemes c.args.pieces.now) (length c.args.pieces.now) c.directives.names ds c.new-decls.result c.directives.node c.directives.at c.directives.node)
+    (sym c.directives-2.view_is) (decls_first c.directives.invariant c.new-decls.ensures (isnt c.directives-test.ensures.value))
 
 pub returns-in_err-read-2-clause-tree : goal.returns-in_err-read-2-clause-tree
 returns-in_err-read-2-clause-tree c = errs _ c.in_err-read-2.field-0.0 _ _ c.from_residual-in_err-read-2.ensures.1 (decl_fault c.decls.invariant _ c.in_err-read-2.field-0.0 (below c.args.pieces.now c.decls.at (omega (arith, c.decls-test.true))) c.in_err-read-2.ensures.tree)
@@ -29,7 +31,8 @@ pub decls-preserved : goal.decls-preserved
 decls-preserved c = decl_turn c.decls.invariant c.push-in-decls.new.items c.in_ok-read-2.ensures.grows c.in_ok-read-2.ensures.tree c.in_ok-push-2.ensures c.in_ok-read-2.ensures.within c.in_ok-read-2.ensures.node c.in_ok-read-2.ensures.names
 
 pub returns-clause-tree : goal.returns-clause-tree
-returns-clause-tree c = subst (λ ds. IsOnly Module (tree (map (directive_shape c.decls.names) ds) (map (decl_shape c.decls.names) c.decls.decls)) (lexemes c.args.pieces.now)) c.directives-2.view_is (whole_only c.decls.invariant (above c.args.pieces.now c.decls.at (omega (arith, c.decls-test.false))))
+returns-clause-tree c = subst (λ ds. IsOnly Module (tree (map (directive_shape c.decls.names) ds) (map (decl_shape c.decls.names) c.decls.decls)) (lexemes c.args.pieces.now))
+    c.directives-2.view_is (whole_only c.decls.invariant (above c.args.pieces.now c.decls.at (omega (arith, c.decls-test.false))))
 
 pub returns-clause-nodes : goal.returns-clause-nodes
 returns-clause-nodes c = subst (λ ds. CountFrom 0 (joined_of directive_nodes ds ++ joined_of decl_nodes c.decls.decls) (length (joined_of directive_nodes ds ++ joined_of decl_nodes c.decls.decls))) c.directives-2.view_is (whole_nodes c.decls.invariant)
