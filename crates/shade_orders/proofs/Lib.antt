@@ -1,0 +1,5 @@
+pub mod Steps
+pub mod Settled
+pub mod Runs
+pub mod Everywhere
+pub mod Numbered

@@ -1,0 +1,15 @@
+pub mod Lists
+pub mod Solo
+pub mod Stands
+pub mod Moves
+pub mod Turns
+pub mod Plans
+pub mod Keeps
+pub mod Law
+pub mod Words
+pub mod Orders
+pub mod Goods
+pub mod Wholes
+pub mod Scripts
+pub mod Records
+pub mod Frames
