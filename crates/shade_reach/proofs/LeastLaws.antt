@@ -6,7 +6,7 @@ use Rattle.std.proofs.lemmas.Bool.Decides.{eqb_tells, leb_tells}
 use Rattle.std.proofs.lemmas.List.{append-nil}
 use Rattle.std.proofs.lemmas.List.Elements.{All-contains}
 use Rattle.std.proofs.lemmas.List.Kept.{AllPairs-from_increasing}
-use Rattle.std.proofs.lemmas.Option.{slice_get-get_or, slice_get_within, slice_get_read, get_or_from_slice_get}
+use Rattle.std.proofs.lemmas.Option.{slice_get-get_or, slice_get_within, get_or_from_slice_get}
 use Rattle.shade_reach.specs.Paths.{Walk, NotAfter, IsLeast}
 use Rattle.shade_reach.specs.Digraph.{HasEdge, IsTargets, IsDistances, IsLeastEdgePath}
 use Rattle.shade_reach.specs.Search.{IsMarked, IsFirstAt}
@@ -169,12 +169,12 @@ itself-is edges from target (first ∷ []) l e = ap (λ (k : ℕ). k ∷ []) l.0
 itself-is edges from target (first ∷ next ∷ rest) l e = elim (l.1.least [] e) [ inl h ↦ absurd (omega (arith, h)) | inr h ↦ absurd (omega (arith, h.0)) ]
 
 -- the mark that an index reads
-pub marked_at : (distances : List (Option ℕ)) (node distance : ℕ) (mark : Option ℕ) → node < length distances → mark ≡ get_or distances node mark → mark ≡ Some distance → IsMarked distances node distance
-marked_at distances node distance mark within read is = slice_get_read distances (length distances) node mark refl within read ∙ ap (λ (m : Option ℕ). Some m) is
+pub marked_at : (distances : List (Option ℕ)) (node distance : ℕ) (other : Option ℕ) → node < length distances → get_or distances node other ≡ Some distance → IsMarked distances node distance
+marked_at distances node distance other within read = slice_get-get_or distances node other within ∙ ap (λ (m : Option ℕ). Some m) read
 
 -- a node that is not marked is not the target
-pub itself-marked : (nodes : ℕ) (edges : List (ℕ × ℕ)) (from target : ℕ) (distances : List (Option ℕ)) (mark : Option ℕ) → IsDistances nodes edges target distances → from < nodes → mark ≡ get_or distances from mark → mark ≡ None → from ≡ target → ⊥
-itself-marked nodes edges from target distances mark d below read is e =
+pub itself-marked : (nodes : ℕ) (edges : List (ℕ × ℕ)) (from target : ℕ) (distances : List (Option ℕ)) (other : Option ℕ) → IsDistances nodes edges target distances → from < nodes → get_or distances from other ≡ None → from ≡ target → ⊥
+itself-marked nodes edges from target distances other d below read e =
     let m : (distance : ℕ) × IsMarked distances from distance × (distance ≤ 0) = marked_by nodes edges target distances d from below [] e in
     let within : from < length distances = omega (arith, d.long, below) in
-    cc (m.1, slice_get_read distances (length distances) from mark refl within read, is)
+    cc (m.1, slice_get-get_or distances from other within, read)

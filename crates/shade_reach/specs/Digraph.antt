@@ -8,6 +8,11 @@ pub record Digraph : Type 0 where
   pub nodes : ℕ
   pub edges : List (ℕ × ℕ)
 
+-- a graph, and the node to which its paths are asked for
+pub record Towards : Type 0 where
+  pub graph : Digraph
+  pub target : ℕ
+
 -- an edge joins one node to another
 abbrev pub HasEdge : List (ℕ × ℕ) → ℕ → ℕ → Type 0
 HasEdge edges from to = Contains edges (from, to)

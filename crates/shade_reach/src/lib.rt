@@ -2,16 +2,17 @@
 #![tactic(auto)]
 
 pub mod lists;
+mod paths;
 mod rows;
 mod search;
 
-ghost use Rattle.std.specs.Prelude.{◌≡◌, ℕ, ◌+◌, ◌<◌, ◌↔◌, [], ◌∷◌, All, Contains, Some, length, IsTrue, IfOk, IfSome, IfNone};
-ghost use Rattle.std.specs.List.Sorted.{IsStrictlyIncreasing};
+ghost use Rattle.std.specs.Prelude.{◌≡◌, ◌<◌, [], ◌∷◌, All, Some, IfOk, IfSome, IfNone};
 ghost use Rattle.shade_reach.specs.Paths.{NoPath};
 ghost use Rattle.shade_reach.specs.Digraph.{HasEdge, JoinsNodes, SameEdges, IsTargets, IsDistances, IsLeastEdgePath};
-ghost use Rattle.shade_reach.specs.Search.{AreSources, IsMarked, IsFirstAt};
+ghost use Rattle.shade_reach.specs.Search.{AreSources};
 
 pub use lists::{Distances, Path};
+pub use paths::PathsTo;
 use rows::{Rows, turned};
 use search::Search;
 use std::alloc::{AllocError, Global};
@@ -105,6 +106,18 @@ impl Graph {
         Ok(Distances::from_vec(distances))
     }
 
+    /// The least paths to a target, from whatever node they are asked for: one search serves them all.
+    ///
+    /// Takes time and memory in the order of the nodes and edges.
+    pub fn paths_to(&self, alloc: Global, target: u32) -> Result<PathsTo<'_>, AllocError>
+        requires { target < self.now.nodes }
+        ensures graph { IfOk result (λ paths. paths.graph ≡ self.now) }
+        ensures target { IfOk result (λ paths. paths.target ≡ target) }
+    {
+        let distances = self.distance_to(alloc, target)?.into_vec();
+        Ok(PathsTo::new(self, target, distances))
+    }
+
     /// The shortest path from a node to a target, and among the shortest the first by node number at the first
     /// difference; `None` exactly where no path leads there. From a node to itself it is that node alone.
     ///
@@ -121,41 +134,6 @@ impl Graph {
         ensures none { IfOk result (λ answer. IfNone answer (NoPath (HasEdge self.now.edges) from target)) }
         ensures itself { from ≡ target → IfOk result (λ answer. answer ≡ Some (from ∷ [])) }
     {
-        let distances = self.distance_to(alloc, target)?.into_vec();
-        let Some(distance) = distances[from as usize] else {
-            return Ok(None);
-        };
-        let mut path = Vec::with_capacity(alloc, distance as usize + 1)?;
-        path.push(from)?;
-        let mut at = from;
-        let mut left = distance;
-        'way: while left > 0 {
-            left -= 1;
-            at = first_at(self.targets(at), &distances, left);
-            path.push(at)?;
-        }
-        Ok(Some(Path::from_vec(path)))
+        self.paths_to(alloc, target)?.least_from(alloc, from)
     }
-}
-
-/// The first of some nodes that is at this distance.
-fn first_at(nodes: &[u32], distances: &[Option<u32>], distance: u32) -> u32
-    requires inside { All (λ node. node < length distances.now) nodes.now }
-    requires some { (node : ℕ) × Contains nodes.now node × IsMarked distances.now node distance }
-    requires ascending { IsStrictlyIncreasing nodes.now }
-    ensures { IsFirstAt nodes.now distances.now distance result }
-{
-    for node in nodes {
-        if is_at(distances, *node, distance) {
-            return *node;
-        }
-    }
-    unreachable!()
-}
-
-fn is_at(distances: &[Option<u32>], node: u32, distance: u32) -> bool
-    requires { node < length distances.now }
-    ensures { IsTrue result ↔ IsMarked distances.now node distance }
-{
-    distances[node as usize] == Some(distance)
 }

@@ -1,7 +1,7 @@
 use Rattle.std.proofs.Common.{◌<◌, length, arith}
 use Rattle.std.proofs.lemmas.Option.{slice_get-get_or}
 use Rattle.shade_reach.proofs.LeastLaws.{first-is, none-more, none-all}
-use Rattle.shade_reach.proofs.first_at.Goals as goal
+use Rattle.shade_reach.proofs.paths.first_at.Goals as goal
 
 pub returns-then-is_at : goal.returns-then-is_at
 returns-then-is_at c =
