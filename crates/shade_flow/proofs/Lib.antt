@@ -16,3 +16,4 @@ pub mod BitLaws
 pub mod DefinitionLaws
 pub mod ChunkLaws
 pub mod ChunkSteps
+pub mod ExitLaws

@@ -9,3 +9,5 @@ pub mod Chosen
 pub mod Definitions
 pub mod Routes
 pub mod Exact
+pub mod Exits
+pub mod Laws
