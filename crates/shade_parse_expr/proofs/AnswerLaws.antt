@@ -20,6 +20,7 @@ use Rattle.shade_cursor.specs.declared.fault.Refusal.{Refusal}
 use Rattle.shade_cursor.specs.declared.fault.Refusal.TheVariants as refusal
 use Rattle.shade_cursor.specs.declared.fault.SyntaxFault.{SyntaxFault}
 use Rattle.shade_parse_expr.specs.Parts.{ReadsTree, Faults}
+use Rattle.shade_parse_expr.specs.Reading.{Went}
 use Rattle.shade_cursor.specs.Passes.{IsFirst}
 use Rattle.shade_cursor.specs.Depths.{IsDeep}
 use Rattle.shade_parse_expr.specs.Answers.{production, AreFew, IsShallow, IsPhrase, IsTooDeep, IsRefused, IsFault}
@@ -27,23 +28,23 @@ use Rattle.shade_cursor.specs.TokenPlaces.{fault_of}
 use Rattle.shade_parse_expr.specs.Cuts.{IsRead, IsUnread, cut_of, uncut_of}
 
 -- what a function of the parser answers, without its rank
-pub without_rank : (goal : Goal) (n : ℕ) (small : n < 10) (tokens : List Lexeme) (old new : List (List ℕ)) (from node : ℕ) (r : Result Part Fault) →
-    MatchResult r (λ p. ReadsTree (production goal) n tokens new [] from node p) (λ f. Faults (production goal) n tokens old new from f) → IfOk r (λ p. p.node + from ≤ node + p.end) →
-    IfOk r (λ p. length new + from ≤ length old + p.end) → MatchResult r (IsRead goal tokens old new from node) (IsUnread goal tokens old new from)
-without_rank goal n small tokens old new from node (Ok p) x few_nodes few = record {
+pub without_rank : (goal : Goal) (n : ℕ) (small : n < 10) (tokens : List Lexeme) (old new : List (List ℕ)) (from node : ℕ) (r : Result Part Fault) (pieces : List Piece) →
+    MatchResult r (λ p. ReadsTree (production goal) n tokens new [] from node p) (λ f. Faults (production goal) n tokens old new from f) →
+    IfOk r (λ p. Went pieces old new from node p.end p.node) → MatchResult r (IsRead goal tokens old new from node) (IsUnread goal tokens old new from)
+without_rank goal n small tokens old new from node (Ok p) pieces x went = record {
   stop = stop_of_reads (production goal) n small tokens from p.end (expr_shape new p.expr) x.reads;
   only = only_of_reads (production goal) n small tokens from p.end (expr_shape new p.expr) x.reads;
   known = x.known;
   nodes = subst (λ ns. CountFrom node ns p.node) (sym x.nodes.nodes_are) x.nodes.counted;
-  few_nodes = few_nodes;
-  few = few;
+  few_nodes = went.numbered;
+  few = went.few;
 }
-without_rank goal n small tokens old new from node (Err (fault.Unexpected at)) x few_nodes few = record {
+without_rank goal n small tokens old new from node (Err (fault.Unexpected at)) pieces x went = record {
   stop = stop_of_fails (production goal) n small tokens from at x.fails;
   none = none_of_fails (production goal) n small tokens from at x.fails;
   few = x.few;
 }
-without_rank goal n small tokens old new from node (Err fault.NoMemory) x few_nodes few = x
+without_rank goal n small tokens old new from node (Err fault.NoMemory) pieces x went = x
 
 -- no token passes a depth
 pub uncut_answer : (goal : Goal) (tokens : List Lexeme) (old new : List (List ℕ)) (from node : ℕ) (answer : Result Part Fault) (r : Result Part Refusal) → ((k : ℕ) → IsDeep tokens from k → ⊥) →

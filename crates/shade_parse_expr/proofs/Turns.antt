@@ -1,5 +1,5 @@
 -- A part that was read, what is left of its phrase, and the numbers of its nodes and names.
-use Rattle.std.proofs.Common.{◌≡◌, sym, subst, ℕ, ◌+◌, ◌≤◌, List, length, map, arith, Result, Ok, Err, MatchResult, IfOk, rules}
+use Rattle.std.proofs.Common.{◌≡◌, sym, subst, ℕ, ◌+◌, ◌≤◌, List, length, map, arith, Result, Ok, Err, MatchResult}
 use Rattle.std.specs.Result.{IsErrAnd}
 use Rattle.shade_ast.specs.declared.expr.Expr.{Expr}
 use Rattle.shade_ast.specs.declared.lexeme.Sign.{Sign}
@@ -69,12 +69,3 @@ module _ (G : ExprShape → List Lexeme → List Lexeme → Type 0) (n : ℕ) (C
 pub reads_grows : (G : ExprShape → List Lexeme → List Lexeme → Type 0) (n : ℕ) (tokens : List Lexeme) (from : ℕ) (old new : List (List ℕ)) (prior : List ℕ) (node : ℕ) (left : Part) →
     Tree old prior node left → Grows old new → Reads G n tokens from (expr_shape old left.expr) left.end → Reads G n tokens from (expr_shape new left.expr) left.end
 reads_grows G n tokens from old new prior node left t g s = subst (λ x. Reads G n tokens from x left.end) (sym (expr_grows old new left.expr t.known g)) s
-
--- what a result holds, where its call ends a function: said so, and not searched for, at each such end
-pub if_ok : {T : Type 0} (r : Result T Fault) (P Q : T → Type 0) → IfOk r P → ((x : T) → P x → Q x) → IfOk r Q
-if_ok (Ok x) P Q h k = k x h
-if_ok (Err f) P Q h k = search rules
-
-pub if_built : {T : Type 0} (r : Result T Fault) (q : T) (P : T → Type 0) (E : Fault → Type 0) → MatchResult r (λ p. p ≡ q) E → P q → IfOk r P
-if_built (Ok x) q P E same p = subst P (sym same) p
-if_built (Err f) q P E same p = search rules

@@ -1,4 +1,5 @@
 pub mod Rests
+pub mod Reading
 pub mod Parts
 pub mod Answers
 pub mod Cuts

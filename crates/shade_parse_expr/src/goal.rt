@@ -1,10 +1,11 @@
 //! Phrases of a goal.
 
-ghost use Rattle.std.specs.Prelude.{◌≡◌, ◌+◌, ◌<◌, ◌≤◌, ◌^◌, length, MatchResult};
+ghost use Rattle.std.specs.Prelude.{◌≡◌, MatchResult};
 ghost use Rattle.shade_ast.specs.Names.{Grows};
 ghost use Rattle.shade_parse_expr.specs.Answers.{IsPhrase, IsRefused};
 ghost use Rattle.shade_parse_expr.specs.Cuts.{cut_of, uncut_of, IsRead, IsUnread};
 ghost use Rattle.shade_cursor.specs.Shown.{lexemes};
+ghost use Rattle.shade_parse_expr.specs.Reading.{CanRead};
 
 use crate::parse;
 use shade_ast::Names;
@@ -32,9 +33,7 @@ pub fn phrase(
     from: usize,
     node: u32,
 ) -> Result<Part, Refusal>
-    requires within { from ≤ length pieces.now }
-    requires node { node + length pieces.now < 2 ^ 32 + from }
-    requires names { length names.old + length pieces.now < 2 ^ 32 + from }
+    requires can { CanRead pieces.now names.old from node }
     ensures answer { MatchResult result (λ p. IsPhrase goal (lexemes pieces.now) names.old names.new from node p.expr p.end p.node)
         (IsRefused goal (lexemes pieces.now) names.old names.new from) }
     ensures grows { Grows names.old names.new }
@@ -60,9 +59,7 @@ fn read(
     from: usize,
     node: u32,
 ) -> Result<Part, Fault>
-    requires within { from ≤ length pieces.now }
-    requires node { node + length pieces.now < 2 ^ 32 + from }
-    requires names { length names.old + length pieces.now < 2 ^ 32 + from }
+    requires can { CanRead pieces.now names.old from node }
     ensures answer { MatchResult result (IsRead goal (lexemes pieces.now) names.old names.new from node)
         (IsUnread goal (lexemes pieces.now) names.old names.new from) }
     ensures grows { Grows names.old names.new }

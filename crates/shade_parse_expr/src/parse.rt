@@ -16,6 +16,7 @@ ghost use Rattle.shade_cursor.specs.Operators.{Closing, Joins, NoLeaf, StandsWor
 ghost use Rattle.shade_parse_expr.specs.Parts.{Parses, ParsesList, ParsesOn};
 ghost use Rattle.shade_parse_expr.specs.Rests.{Called, Compared, JoinPart, Joining, is_bare, joint_rank};
 ghost use Rattle.shade_cursor.specs.Shown.{lexemes};
+ghost use Rattle.shade_parse_expr.specs.Reading.{CanRead, Went, WentOrStayed};
 
 use shade_ast::{Expr, ExprKind, Keyword, Names, Sign};
 use shade_base::Place;
@@ -42,15 +43,10 @@ pub fn expression(
     from: usize,
     node: u32,
 ) -> Result<Part, Fault>
-    requires within { from ≤ length pieces.now }
-    requires node { node + length pieces.now < 2 ^ 32 + from }
-    requires names { length names.old + length pieces.now < 2 ^ 32 + from }
+    requires can { CanRead pieces.now names.old from node }
     ensures tree { Parses Expression 7 (lexemes pieces.now) names.old names.new [] from node result }
     ensures grows { Grows names.old names.new }
-    ensures further { IfOk result (λ p. from < p.end) }
-    ensures within { IfOk result (λ p. p.end ≤ length pieces.now) }
-    ensures node { IfOk result (λ p. p.node + from ≤ node + p.end) }
-    ensures names { IfOk result (λ p. length names.new + from ≤ length names.old + p.end) }
+    ensures went { IfOk result (λ p. Went pieces.now names.old names.new from node p.end p.node) }
 {
     let left = relational(alloc, pieces, names, from, node)?;
     let Some((joint, _)) = joint_at(pieces, left.end) else {
@@ -71,17 +67,12 @@ fn joined(
     first: Part,
     joint: Joint,
 ) -> Result<Part, Fault>
-    requires within { first.end ≤ length pieces.now }
-    requires node { first.node + length pieces.now < 2 ^ 32 + first.end }
-    requires names { length names.old + length pieces.now < 2 ^ 32 + first.end }
+    requires can { CanRead pieces.now names.old first.end first.node }
     requires known { expr_needs first.expr ≤ length names.old }
     requires bare { first.bare ≡ is_bare (expr_shape names.old first.expr) }
     ensures tree { ParsesOn (Joining joint) 7 (lexemes pieces.now) names.old names.new first first.end result }
     ensures grows { Grows names.old names.new }
-    ensures further { IfOk result (λ p. first.end ≤ p.end) }
-    ensures within { IfOk result (λ p. p.end ≤ length pieces.now) }
-    ensures node { IfOk result (λ p. p.node + first.end ≤ first.node + p.end) }
-    ensures names { IfOk result (λ p. length names.new + first.end ≤ length names.old + p.end) }
+    ensures went { IfOk result (λ p. WentOrStayed pieces.now names.old names.new first.end first.node p.end p.node) }
 {
     let mut left = first;
     'joints: while let Some(place) = mark_at(pieces, left.end, sign_of(joint)) {
@@ -104,15 +95,10 @@ fn join_part(
     from: usize,
     node: u32,
 ) -> Result<Part, Fault>
-    requires within { from ≤ length pieces.now }
-    requires node { node + length pieces.now < 2 ^ 32 + from }
-    requires names { length names.old + length pieces.now < 2 ^ 32 + from }
+    requires can { CanRead pieces.now names.old from node }
     ensures tree { Parses (JoinPart joint) (joint_rank joint) (lexemes pieces.now) names.old names.new [] from node result }
     ensures grows { Grows names.old names.new }
-    ensures further { IfOk result (λ p. from < p.end) }
-    ensures within { IfOk result (λ p. p.end ≤ length pieces.now) }
-    ensures node { IfOk result (λ p. p.node + from ≤ node + p.end) }
-    ensures names { IfOk result (λ p. length names.new + from ≤ length names.old + p.end) }
+    ensures went { IfOk result (λ p. Went pieces.now names.old names.new from node p.end p.node) }
 {
     match joint {
         Joint::Or | Joint::And => relational(alloc, pieces, names, from, node),
@@ -129,15 +115,10 @@ fn relational(
     from: usize,
     node: u32,
 ) -> Result<Part, Fault>
-    requires within { from ≤ length pieces.now }
-    requires node { node + length pieces.now < 2 ^ 32 + from }
-    requires names { length names.old + length pieces.now < 2 ^ 32 + from }
+    requires can { CanRead pieces.now names.old from node }
     ensures tree { Parses Relational 6 (lexemes pieces.now) names.old names.new [] from node result }
     ensures grows { Grows names.old names.new }
-    ensures further { IfOk result (λ p. from < p.end) }
-    ensures within { IfOk result (λ p. p.end ≤ length pieces.now) }
-    ensures node { IfOk result (λ p. p.node + from ≤ node + p.end) }
-    ensures names { IfOk result (λ p. length names.new + from ≤ length names.old + p.end) }
+    ensures went { IfOk result (λ p. Went pieces.now names.old names.new from node p.end p.node) }
 {
     let left = additive(alloc, pieces, names, from, node)?;
     let Some((operator, place, next)) = shift_at(pieces, left.end, left.bare) else {
@@ -154,17 +135,12 @@ fn relational(
 /// The rest of a comparison behind its left side, if it is one.
 #[cycle(grammar)]
 fn compared(alloc: Global, pieces: &[Piece], names: &mut Names, left: Part) -> Result<Part, Fault>
-    requires within { left.end ≤ length pieces.now }
-    requires node { left.node + length pieces.now < 2 ^ 32 + left.end }
-    requires names { length names.old + length pieces.now < 2 ^ 32 + left.end }
+    requires can { CanRead pieces.now names.old left.end left.node }
     requires known { expr_needs left.expr ≤ length names.old }
     requires bare { left.bare ≡ is_bare (expr_shape names.old left.expr) }
     ensures tree { ParsesOn Compared 6 (lexemes pieces.now) names.old names.new left left.end result }
     ensures grows { Grows names.old names.new }
-    ensures further { IfOk result (λ p. left.end ≤ p.end) }
-    ensures within { IfOk result (λ p. p.end ≤ length pieces.now) }
-    ensures node { IfOk result (λ p. p.node + left.end ≤ left.node + p.end) }
-    ensures names { IfOk result (λ p. length names.new + left.end ≤ length names.old + p.end) }
+    ensures went { IfOk result (λ p. WentOrStayed pieces.now names.old names.new left.end left.node p.end p.node) }
 {
     let Some((operator, place, next)) = comparison_at(pieces, left.end) else {
         return Ok(left);
@@ -185,15 +161,10 @@ fn shift(
     from: usize,
     node: u32,
 ) -> Result<Part, Fault>
-    requires within { from ≤ length pieces.now }
-    requires node { node + length pieces.now < 2 ^ 32 + from }
-    requires names { length names.old + length pieces.now < 2 ^ 32 + from }
+    requires can { CanRead pieces.now names.old from node }
     ensures tree { Parses Shift 6 (lexemes pieces.now) names.old names.new [] from node result }
     ensures grows { Grows names.old names.new }
-    ensures further { IfOk result (λ p. from < p.end) }
-    ensures within { IfOk result (λ p. p.end ≤ length pieces.now) }
-    ensures node { IfOk result (λ p. p.node + from ≤ node + p.end) }
-    ensures names { IfOk result (λ p. length names.new + from ≤ length names.old + p.end) }
+    ensures went { IfOk result (λ p. Went pieces.now names.old names.new from node p.end p.node) }
 {
     let left = additive(alloc, pieces, names, from, node)?;
     let Some((operator, place, next)) = shift_at(pieces, left.end, left.bare) else {
@@ -221,15 +192,10 @@ fn additive(
     from: usize,
     node: u32,
 ) -> Result<Part, Fault>
-    requires within { from ≤ length pieces.now }
-    requires node { node + length pieces.now < 2 ^ 32 + from }
-    requires names { length names.old + length pieces.now < 2 ^ 32 + from }
+    requires can { CanRead pieces.now names.old from node }
     ensures tree { Parses Additive 4 (lexemes pieces.now) names.old names.new [] from node result }
     ensures grows { Grows names.old names.new }
-    ensures further { IfOk result (λ p. from < p.end) }
-    ensures within { IfOk result (λ p. p.end ≤ length pieces.now) }
-    ensures node { IfOk result (λ p. p.node + from ≤ node + p.end) }
-    ensures names { IfOk result (λ p. length names.new + from ≤ length names.old + p.end) }
+    ensures went { IfOk result (λ p. Went pieces.now names.old names.new from node p.end p.node) }
 {
     let mut left = multiplicative(alloc, pieces, names, from, node)?;
     'terms: while let Some((operator, place)) = term_at(pieces, left.end) {
@@ -251,15 +217,10 @@ fn multiplicative(
     from: usize,
     node: u32,
 ) -> Result<Part, Fault>
-    requires within { from ≤ length pieces.now }
-    requires node { node + length pieces.now < 2 ^ 32 + from }
-    requires names { length names.old + length pieces.now < 2 ^ 32 + from }
+    requires can { CanRead pieces.now names.old from node }
     ensures tree { Parses Multiplicative 3 (lexemes pieces.now) names.old names.new [] from node result }
     ensures grows { Grows names.old names.new }
-    ensures further { IfOk result (λ p. from < p.end) }
-    ensures within { IfOk result (λ p. p.end ≤ length pieces.now) }
-    ensures node { IfOk result (λ p. p.node + from ≤ node + p.end) }
-    ensures names { IfOk result (λ p. length names.new + from ≤ length names.old + p.end) }
+    ensures went { IfOk result (λ p. Went pieces.now names.old names.new from node p.end p.node) }
 {
     let mut left = unary(alloc, pieces, names, from, node)?;
     'factors: while let Some((operator, place)) = factor_at(pieces, left.end) {
@@ -281,15 +242,10 @@ fn unary(
     from: usize,
     node: u32,
 ) -> Result<Part, Fault>
-    requires within { from ≤ length pieces.now }
-    requires node { node + length pieces.now < 2 ^ 32 + from }
-    requires names { length names.old + length pieces.now < 2 ^ 32 + from }
+    requires can { CanRead pieces.now names.old from node }
     ensures tree { Parses Unary 2 (lexemes pieces.now) names.old names.new [] from node result }
     ensures grows { Grows names.old names.new }
-    ensures further { IfOk result (λ p. from < p.end) }
-    ensures within { IfOk result (λ p. p.end ≤ length pieces.now) }
-    ensures node { IfOk result (λ p. p.node + from ≤ node + p.end) }
-    ensures names { IfOk result (λ p. length names.new + from ≤ length names.old + p.end) }
+    ensures went { IfOk result (λ p. Went pieces.now names.old names.new from node p.end p.node) }
 {
     let Some((operator, place)) = prefix_at(pieces, from) else {
         return singular(alloc, pieces, names, from, node);
@@ -307,15 +263,10 @@ fn singular(
     from: usize,
     node: u32,
 ) -> Result<Part, Fault>
-    requires within { from ≤ length pieces.now }
-    requires node { node + length pieces.now < 2 ^ 32 + from }
-    requires names { length names.old + length pieces.now < 2 ^ 32 + from }
+    requires can { CanRead pieces.now names.old from node }
     ensures tree { Parses Singular 2 (lexemes pieces.now) names.old names.new [] from node result }
     ensures grows { Grows names.old names.new }
-    ensures further { IfOk result (λ p. from < p.end) }
-    ensures within { IfOk result (λ p. p.end ≤ length pieces.now) }
-    ensures node { IfOk result (λ p. p.node + from ≤ node + p.end) }
-    ensures names { IfOk result (λ p. length names.new + from ≤ length names.old + p.end) }
+    ensures went { IfOk result (λ p. Went pieces.now names.old names.new from node p.end p.node) }
 {
     let whole = primary(alloc, pieces, names, from, node)?;
     accesses(alloc, pieces, names, whole)
@@ -324,17 +275,12 @@ fn singular(
 /// Accesses to parts of what stands before them.
 #[cycle(grammar)]
 fn accesses(alloc: Global, pieces: &[Piece], names: &mut Names, first: Part) -> Result<Part, Fault>
-    requires within { first.end ≤ length pieces.now }
-    requires node { first.node + length pieces.now < 2 ^ 32 + first.end }
-    requires names { length names.old + length pieces.now < 2 ^ 32 + first.end }
+    requires can { CanRead pieces.now names.old first.end first.node }
     requires known { expr_needs first.expr ≤ length names.old }
     requires bare { first.bare ≡ is_bare (expr_shape names.old first.expr) }
     ensures tree { ParsesOn (Tail AccessStep) 2 (lexemes pieces.now) names.old names.new first first.end result }
     ensures grows { Grows names.old names.new }
-    ensures further { IfOk result (λ p. first.end ≤ p.end) }
-    ensures within { IfOk result (λ p. p.end ≤ length pieces.now) }
-    ensures node { IfOk result (λ p. p.node + first.end ≤ first.node + p.end) }
-    ensures names { IfOk result (λ p. length names.new + first.end ≤ length names.old + p.end) }
+    ensures went { IfOk result (λ p. WentOrStayed pieces.now names.old names.new first.end first.node p.end p.node) }
 {
     let mut whole = first;
     'steps: loop {
@@ -356,17 +302,14 @@ fn by_name(
     whole: Part,
     dot: Place,
 ) -> Result<Part, Fault>
+    requires can { CanRead pieces.now names.old whole.end whole.node }
     requires within { whole.end + 1 ≤ length pieces.now }
-    requires node { whole.node + length pieces.now < 2 ^ 32 + whole.end }
-    requires names { length names.old + length pieces.now < 2 ^ 32 + whole.end }
     requires known { expr_needs whole.expr ≤ length names.old }
     requires bare { whole.bare ≡ is_bare (expr_shape names.old whole.expr) }
     ensures tree { ParsesOn (λ l. MemberStep l dot) 1 (lexemes pieces.now) names.old names.new whole (whole.end + 1) result }
     ensures grows { Grows names.old names.new }
+    ensures went { IfOk result (λ p. Went pieces.now names.old names.new whole.end whole.node p.end p.node) }
     ensures further { IfOk result (λ p. whole.end + 1 < p.end) }
-    ensures within { IfOk result (λ p. p.end ≤ length pieces.now) }
-    ensures node { IfOk result (λ p. p.node + whole.end ≤ whole.node + p.end) }
-    ensures names { IfOk result (λ p. length names.new + whole.end ≤ length names.old + p.end) }
 {
     let Some((text, place)) = word_at(pieces, whole.end + 1) else {
         return refuse(Fault::Unexpected(whole.end + 1), whole);
@@ -387,17 +330,14 @@ fn by_index(
     whole: Part,
     bracket: Place,
 ) -> Result<Part, Fault>
+    requires can { CanRead pieces.now names.old whole.end whole.node }
     requires within { whole.end + 1 ≤ length pieces.now }
-    requires node { whole.node + length pieces.now < 2 ^ 32 + whole.end }
-    requires names { length names.old + length pieces.now < 2 ^ 32 + whole.end }
     requires known { expr_needs whole.expr ≤ length names.old }
     requires bare { whole.bare ≡ is_bare (expr_shape names.old whole.expr) }
     ensures tree { ParsesOn (λ l. IndexStep l bracket) 1 (lexemes pieces.now) names.old names.new whole (whole.end + 1) result }
     ensures grows { Grows names.old names.new }
+    ensures went { IfOk result (λ p. Went pieces.now names.old names.new whole.end whole.node p.end p.node) }
     ensures further { IfOk result (λ p. whole.end + 1 < p.end) }
-    ensures within { IfOk result (λ p. p.end ≤ length pieces.now) }
-    ensures node { IfOk result (λ p. p.node + whole.end ≤ whole.node + p.end) }
-    ensures names { IfOk result (λ p. length names.new + whole.end ≤ length names.old + p.end) }
 {
     let at = match expression(alloc, pieces, names, whole.end + 1, whole.node) {
         Ok(at) => at,
@@ -418,15 +358,10 @@ fn primary(
     from: usize,
     node: u32,
 ) -> Result<Part, Fault>
-    requires within { from ≤ length pieces.now }
-    requires node { node + length pieces.now < 2 ^ 32 + from }
-    requires names { length names.old + length pieces.now < 2 ^ 32 + from }
+    requires can { CanRead pieces.now names.old from node }
     ensures tree { Parses Primary 1 (lexemes pieces.now) names.old names.new [] from node result }
     ensures grows { Grows names.old names.new }
-    ensures further { IfOk result (λ p. from < p.end) }
-    ensures within { IfOk result (λ p. p.end ≤ length pieces.now) }
-    ensures node { IfOk result (λ p. p.node + from ≤ node + p.end) }
-    ensures names { IfOk result (λ p. length names.new + from ≤ length names.old + p.end) }
+    ensures went { IfOk result (λ p. Went pieces.now names.old names.new from node p.end p.node) }
 {
     if word_at(pieces, from).is_some() {
         return call_or_type(alloc, pieces, names, from, node);
@@ -452,16 +387,11 @@ fn in_parens(
     from: usize,
     node: u32,
 ) -> Result<Part, Fault>
-    requires within { from ≤ length pieces.now }
-    requires node { node + length pieces.now < 2 ^ 32 + from }
-    requires names { length names.old + length pieces.now < 2 ^ 32 + from }
+    requires can { CanRead pieces.now names.old from node }
     requires none { NoLeaf (lexemes pieces.now) from }
     ensures tree { Parses Primary 1 (lexemes pieces.now) names.old names.new [] from node result }
     ensures grows { Grows names.old names.new }
-    ensures further { IfOk result (λ p. from < p.end) }
-    ensures within { IfOk result (λ p. p.end ≤ length pieces.now) }
-    ensures node { IfOk result (λ p. p.node + from ≤ node + p.end) }
-    ensures names { IfOk result (λ p. length names.new + from ≤ length names.old + p.end) }
+    ensures went { IfOk result (λ p. Went pieces.now names.old names.new from node p.end p.node) }
 {
     let Some(place) = mark_at(pieces, from, Sign::Open) else {
         return Err(Fault::Unexpected(from));
@@ -482,16 +412,11 @@ fn call_or_type(
     from: usize,
     node: u32,
 ) -> Result<Part, Fault>
-    requires within { from ≤ length pieces.now }
-    requires node { node + length pieces.now < 2 ^ 32 + from }
-    requires names { length names.old + length pieces.now < 2 ^ 32 + from }
+    requires can { CanRead pieces.now names.old from node }
     requires word { StandsWord (lexemes pieces.now) from }
     ensures tree { Parses Primary 1 (lexemes pieces.now) names.old names.new [] from node result }
     ensures grows { Grows names.old names.new }
-    ensures further { IfOk result (λ p. from < p.end) }
-    ensures within { IfOk result (λ p. p.end ≤ length pieces.now) }
-    ensures node { IfOk result (λ p. p.node + from ≤ node + p.end) }
-    ensures names { IfOk result (λ p. length names.new + from ≤ length names.old + p.end) }
+    ensures went { IfOk result (λ p. Went pieces.now names.old names.new from node p.end p.node) }
 {
     let callee = type_name(alloc, pieces, names, from, node)?;
     if mark_at(pieces, callee.end, Sign::Open).is_none() {
@@ -509,15 +434,10 @@ pub fn call_only(
     from: usize,
     node: u32,
 ) -> Result<Part, Fault>
-    requires within { from ≤ length pieces.now }
-    requires node { node + length pieces.now < 2 ^ 32 + from }
-    requires names { length names.old + length pieces.now < 2 ^ 32 + from }
+    requires can { CanRead pieces.now names.old from node }
     ensures tree { Parses Call 1 (lexemes pieces.now) names.old names.new [] from node result }
     ensures grows { Grows names.old names.new }
-    ensures further { IfOk result (λ p. from < p.end) }
-    ensures within { IfOk result (λ p. p.end ≤ length pieces.now) }
-    ensures node { IfOk result (λ p. p.node + from ≤ node + p.end) }
-    ensures names { IfOk result (λ p. length names.new + from ≤ length names.old + p.end) }
+    ensures went { IfOk result (λ p. Went pieces.now names.old names.new from node p.end p.node) }
 {
     let callee = type_name(alloc, pieces, names, from, node)?;
     if mark_at(pieces, callee.end, Sign::Open).is_none() {
@@ -529,17 +449,14 @@ pub fn call_only(
 /// The arguments of a call, behind the `(`.
 #[cycle(grammar)]
 fn called(alloc: Global, pieces: &[Piece], names: &mut Names, callee: Part) -> Result<Part, Fault>
+    requires can { CanRead pieces.now names.old callee.end callee.node }
     requires within { callee.end + 1 ≤ length pieces.now }
-    requires node { callee.node + length pieces.now < 2 ^ 32 + callee.end }
-    requires names { length names.old + length pieces.now < 2 ^ 32 + callee.end }
     requires known { expr_needs callee.expr ≤ length names.old }
     requires bare { callee.bare ≡ is_bare (expr_shape names.old callee.expr) }
     ensures tree { ParsesOn Called 1 (lexemes pieces.now) names.old names.new callee (callee.end + 1) result }
     ensures grows { Grows names.old names.new }
+    ensures went { IfOk result (λ p. Went pieces.now names.old names.new callee.end callee.node p.end p.node) }
     ensures further { IfOk result (λ p. callee.end + 1 < p.end) }
-    ensures within { IfOk result (λ p. p.end ≤ length pieces.now) }
-    ensures node { IfOk result (λ p. p.node + callee.end ≤ callee.node + p.end) }
-    ensures names { IfOk result (λ p. length names.new + callee.end ≤ length names.old + p.end) }
 {
     let list = match arguments(alloc, pieces, names, callee.end + 1, callee.node) {
         Ok(list) => list,
@@ -558,15 +475,10 @@ pub fn type_name(
     from: usize,
     node: u32,
 ) -> Result<Part, Fault>
-    requires within { from ≤ length pieces.now }
-    requires node { node + length pieces.now < 2 ^ 32 + from }
-    requires names { length names.old + length pieces.now < 2 ^ 32 + from }
+    requires can { CanRead pieces.now names.old from node }
     ensures tree { Parses TypeName 0 (lexemes pieces.now) names.old names.new [] from node result }
     ensures grows { Grows names.old names.new }
-    ensures further { IfOk result (λ p. from < p.end) }
-    ensures within { IfOk result (λ p. p.end ≤ length pieces.now) }
-    ensures node { IfOk result (λ p. p.node + from ≤ node + p.end) }
-    ensures names { IfOk result (λ p. length names.new + from ≤ length names.old + p.end) }
+    ensures went { IfOk result (λ p. Went pieces.now names.old names.new from node p.end p.node) }
 {
     let Some((text, place)) = word_at(pieces, from) else {
         return Err(Fault::Unexpected(from));
@@ -588,15 +500,10 @@ pub fn arguments(
     from: usize,
     node: u32,
 ) -> Result<Listing, Fault>
-    requires within { from ≤ length pieces.now }
-    requires node { node + length pieces.now < 2 ^ 32 + from }
-    requires names { length names.old + length pieces.now < 2 ^ 32 + from }
+    requires can { CanRead pieces.now names.old from node }
     ensures tree { ParsesList (Closed (MaybeListed Expression) (Mark sign_.Close)) 0 (lexemes pieces.now) names.old names.new from node result }
     ensures grows { Grows names.old names.new }
-    ensures further { IfOk result (λ p. from < p.end) }
-    ensures within { IfOk result (λ p. p.end ≤ length pieces.now) }
-    ensures node { IfOk result (λ p. p.node + from ≤ node + p.end) }
-    ensures names { IfOk result (λ p. length names.new + from ≤ length names.old + p.end) }
+    ensures went { IfOk result (λ p. Went pieces.now names.old names.new from node p.end p.node) }
 {
     if mark_at(pieces, from, Sign::Close).is_some() {
         return Ok(Listing {
@@ -619,16 +526,11 @@ fn list(
     start: u32,
     closer: Sign,
 ) -> Result<Listing, Fault>
-    requires within { from ≤ length pieces.now }
-    requires node { start + length pieces.now < 2 ^ 32 + from }
-    requires names { length names.old + length pieces.now < 2 ^ 32 + from }
+    requires can { CanRead pieces.now names.old from start }
     requires closes { Closing closer }
     ensures tree { ParsesList (Closed (Listed Expression) (Mark closer)) 0 (lexemes pieces.now) names.old names.new from start result }
     ensures grows { Grows names.old names.new }
-    ensures further { IfOk result (λ p. from < p.end) }
-    ensures within { IfOk result (λ p. p.end ≤ length pieces.now) }
-    ensures node { IfOk result (λ p. p.node + from ≤ start + p.end) }
-    ensures names { IfOk result (λ p. length names.new + from ≤ length names.old + p.end) }
+    ensures went { IfOk result (λ p. Went pieces.now names.old names.new from start p.end p.node) }
 {
     let mut items = Items::new(alloc);
     let mut at = from;
@@ -673,15 +575,10 @@ pub fn left_side(
     from: usize,
     node: u32,
 ) -> Result<Part, Fault>
-    requires within { from ≤ length pieces.now }
-    requires node { node + length pieces.now < 2 ^ 32 + from }
-    requires names { length names.old + length pieces.now < 2 ^ 32 + from }
+    requires can { CanRead pieces.now names.old from node }
     ensures tree { Parses LeftSide 2 (lexemes pieces.now) names.old names.new [] from node result }
     ensures grows { Grows names.old names.new }
-    ensures further { IfOk result (λ p. from < p.end) }
-    ensures within { IfOk result (λ p. p.end ≤ length pieces.now) }
-    ensures node { IfOk result (λ p. p.node + from ≤ node + p.end) }
-    ensures names { IfOk result (λ p. length names.new + from ≤ length names.old + p.end) }
+    ensures went { IfOk result (λ p. Went pieces.now names.old names.new from node p.end p.node) }
 {
     let Some((operator, place)) = left_prefix_at(pieces, from) else {
         return left_singular(alloc, pieces, names, from, node);
@@ -699,15 +596,10 @@ fn left_singular(
     from: usize,
     node: u32,
 ) -> Result<Part, Fault>
-    requires within { from ≤ length pieces.now }
-    requires node { node + length pieces.now < 2 ^ 32 + from }
-    requires names { length names.old + length pieces.now < 2 ^ 32 + from }
+    requires can { CanRead pieces.now names.old from node }
     ensures tree { Parses LeftSingular 2 (lexemes pieces.now) names.old names.new [] from node result }
     ensures grows { Grows names.old names.new }
-    ensures further { IfOk result (λ p. from < p.end) }
-    ensures within { IfOk result (λ p. p.end ≤ length pieces.now) }
-    ensures node { IfOk result (λ p. p.node + from ≤ node + p.end) }
-    ensures names { IfOk result (λ p. length names.new + from ≤ length names.old + p.end) }
+    ensures went { IfOk result (λ p. Went pieces.now names.old names.new from node p.end p.node) }
 {
     let whole = left_first(alloc, pieces, names, from, node)?;
     accesses(alloc, pieces, names, whole)
@@ -722,15 +614,10 @@ fn left_first(
     from: usize,
     node: u32,
 ) -> Result<Part, Fault>
-    requires within { from ≤ length pieces.now }
-    requires node { node + length pieces.now < 2 ^ 32 + from }
-    requires names { length names.old + length pieces.now < 2 ^ 32 + from }
+    requires can { CanRead pieces.now names.old from node }
     ensures tree { Parses LeftFirst 1 (lexemes pieces.now) names.old names.new [] from node result }
     ensures grows { Grows names.old names.new }
-    ensures further { IfOk result (λ p. from < p.end) }
-    ensures within { IfOk result (λ p. p.end ≤ length pieces.now) }
-    ensures node { IfOk result (λ p. p.node + from ≤ node + p.end) }
-    ensures names { IfOk result (λ p. length names.new + from ≤ length names.old + p.end) }
+    ensures went { IfOk result (λ p. Went pieces.now names.old names.new from node p.end p.node) }
 {
     if let Some((text, place)) = word_at(pieces, from) {
         let name = number(names, text)?;

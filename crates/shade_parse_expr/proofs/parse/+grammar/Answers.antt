@@ -22,7 +22,7 @@ use Rattle.shade_parse_expr.proofs.Readings.{builds, goes_as, goes_on, here_tree
 use Rattle.shade_parse_expr.proofs.Shifts.{compared_fails, compared_none, relation_fails, relation_first_fails, relation_operand_fails, relation_reads, shift_alone, shift_first_fails, shift_operand_fails, shift_stuck}
 use Rattle.shade_cursor.proofs.Tokens.{shown_within, isnt, told_none, told_some}
 use Rattle.shade_parse_expr.proofs.Trees.{leaf_false, leaf_name, leaf_number, leaf_true, name_stays, reads_tree, tree_of}
-use Rattle.shade_parse_expr.proofs.Turns.{errs, fails_here, fault_on, if_built, if_ok, no_memory}
+use Rattle.shade_parse_expr.proofs.Turns.{errs, fails_here, fault_on, no_memory}
 use Rattle.shade_cursor.specs.Operators.{Joins, ShiftAt, joint_infix, prefix_of}
 use Rattle.shade_parse_expr.specs.Parts.{ReadsList}
 use Rattle.shade_parse_expr.specs.Rests.{Called, Compared, JoinPart, Joining, joint_rank}
@@ -38,32 +38,32 @@ use Rattle.shade_parse_expr.proofs.parse.+grammar.Goals as goal
 pub expression-returns-in_err-left-clause-tree : goal.expression-returns-in_err-left-clause-tree
 expression-returns-in_err-left-clause-tree t c =
     let tokens = lexemes c.args.pieces.now in
-    let within = shown_within c.args.pieces.now c.args.from c.requires.within in
+    let within = shown_within c.args.pieces.now c.args.from c.requires.can.within in
     errs _ c.in_err-left.field-0.0 _ _ c.from_residual.ensures.1 (fault_on Expression Relational 7 6 tokens c.args.names.now c.args.names.now _ c.args.from c.args.from c.in_err-left.field-0.0 (omega arith) (λ to f. expression_first_fails tokens c.args.from within to f) c.in_err-left.ensures.tree)
 
 pub expression-returns-in_default-clause-tree : goal.expression-returns-in_default-clause-tree
-expression-returns-in_default-clause-tree t c = read_as Expression Relational 7 6 (lexemes c.args.pieces.now) _ _ _ _ _ c.in_ok-left.ensures.tree (λ x. alone_none (lexemes c.args.pieces.now) c.args.from (shown_within c.args.pieces.now c.args.from c.requires.within) _ _ x c.in_default.ensures.value)
+expression-returns-in_default-clause-tree t c = read_as Expression Relational 7 6 (lexemes c.args.pieces.now) _ _ _ _ _ c.in_ok-left.ensures.tree (λ x. alone_none (lexemes c.args.pieces.now) c.args.from (shown_within c.args.pieces.now c.args.from c.requires.can.within) _ _ x c.in_default.ensures.value)
 
 pub expression-returns-then-not-joins-clause-tree : goal.expression-returns-then-not-joins-clause-tree
 expression-returns-then-not-joins-clause-tree t c =
     let tokens = lexemes c.args.pieces.now in
-    let within = shown_within c.args.pieces.now c.args.from c.requires.within in
+    let within = shown_within c.args.pieces.now c.args.from c.requires.can.within in
     read_as Expression Relational 7 6 tokens _ _ _ _ _ c.in_ok-left.ensures.tree (λ x. alone_other tokens c.args.from within _ _ x _ _ c.in-Some.ensures.value (λ b. isnt c.if-not-joins.ensures (subst (λ y. Joins c.in-Some.joint y) (sym c.in_ok-left.ensures.tree.bare) b)))
 
 pub expression-returns-clause-tree : goal.expression-returns-clause-tree
 expression-returns-clause-tree t c =
     let tokens = lexemes c.args.pieces.now in
-    let within = shown_within c.args.pieces.now c.args.from c.requires.within in
+    let within = shown_within c.args.pieces.now c.args.from c.requires.can.within in
     let joins = c.if-not-joins.ensures.0 refl in
     let left_shape = expr_shape c.relational.new.names c.in_ok-left.left.expr in
     goes_on Expression (Joining c.in-Some.joint left_shape) 7 7 tokens c.args.names.now c.relational.new.names c.joined.new.names c.args.from c.args.node c.in_ok-left.left.end c.in_ok-left.left
-    c.joined.result (c.in_ok-left.ensures.names) c.in_ok-left.ensures.tree.nodes
+    c.joined.result (c.in_ok-left.ensures.went.few) c.in_ok-left.ensures.tree.nodes
     (λ e to y. join_reads tokens c.args.from within left_shape c.in_ok-left.left.end c.in_ok-left.ensures.tree.reads c.in-Some.joint _ c.in-Some.ensures.value (subst (λ y. Joins c.in-Some.joint y) c.in_ok-left.ensures.tree.bare joins) e to y)
     (λ to y. join_fails tokens c.args.from within left_shape c.in_ok-left.left.end c.in_ok-left.ensures.tree.reads c.in-Some.joint _ c.in-Some.ensures.value (subst (λ y. Joins c.in-Some.joint y) c.in_ok-left.ensures.tree.bare joins) to y)
     c.joined.ensures.tree
 
 pub joined-joints-init : goal.joined-joints-init
-joined-joints-init t c = turn_here 7 (Joining c.args.joint) (lexemes c.args.pieces.now) (length c.args.pieces.now) c.args.names.now c.args.first (shown_within c.args.pieces.now c.args.first.end c.requires.within) c.requires.within c.requires.known c.requires.bare
+joined-joints-init t c = turn_here 7 (Joining c.args.joint) (lexemes c.args.pieces.now) (length c.args.pieces.now) c.args.names.now c.args.first (shown_within c.args.pieces.now c.args.first.end c.requires.can.within) c.requires.can.within c.requires.known c.requires.bare
 
 pub joined-returns-in-Err-clause-tree : goal.joined-returns-in-Err-clause-tree
 joined-returns-in-Err-clause-tree t c =
@@ -81,7 +81,7 @@ joined-returns-in_err-left-clause-tree t c =
     let tokens = lexemes c.args.pieces.now in
     errs _ c.in_err-left.field-0.0 _ _ c.from_residual.ensures.1
     (no_memory (Joining c.args.joint (expr_shape c.args.names.now c.args.first.expr)) 7 tokens c.args.names.now c.join_part.new.names c.args.first.end c.in_err-left.field-0.0 c.in_err-left.ensures
-    (omega (arith, c.joints.invariant.few, c.in-Ok.ensures.names, c.in-Ok.ensures.within, length-map c.args.pieces.now lexeme)))
+    (omega (arith, c.joints.invariant.few, c.in-Ok.ensures.went.few, c.in-Ok.ensures.went.within, length-map c.args.pieces.now lexeme)))
 
 pub joined-joints-preserved : goal.joined-joints-preserved
 joined-joints-preserved t c =
@@ -89,7 +89,7 @@ joined-joints-preserved t c =
     let first_shape = expr_shape c.args.names.now c.args.first.expr in
     turn_infix (Joining c.args.joint first_shape) 7 (Joining c.args.joint) tokens (length c.args.pieces.now) c.args.names.now c.joints.names c.join_part.new.names (expr_nodes c.args.first.expr)
     c.args.first.end c.args.first.node c.args.first.end c.joints.left c.joints.invariant (JoinPart c.args.joint) (joint_rank c.args.joint) c.in-Ok.right c.in_ok-left.left (joint_infix c.args.joint)
-    c.in-Some.place c.in-Ok.ensures.grows c.in-Ok.ensures.tree c.in-Ok.ensures.further c.in-Ok.ensures.within c.in-Ok.ensures.node c.in-Ok.ensures.names
+    c.in-Some.place c.in-Ok.ensures.grows c.in-Ok.ensures.tree c.in-Ok.ensures.went.further c.in-Ok.ensures.went.within c.in-Ok.ensures.went.numbered c.in-Ok.ensures.went.few
     (subst
     (λ i. c.in_ok-left.left ≡ record { expr = record { node = c.in-Ok.right.node; place = c.joints.left.expr.place; kind = kind.Infix c.joints.left.expr i c.in-Some.place c.in-Ok.right.expr }; end = c.in-Ok.right.end; node = c.in-Ok.right.node + 1; bare = false })
     c.infix_of.ensures c.in_ok-left.ensures)
@@ -113,17 +113,17 @@ join_part-returns-in-BitAnd-clause-tree t c = operand_part (lexemes c.args.piece
 pub relational-returns-in_err-left-clause-tree : goal.relational-returns-in_err-left-clause-tree
 relational-returns-in_err-left-clause-tree t c =
     let tokens = lexemes c.args.pieces.now in
-    let within = shown_within c.args.pieces.now c.args.from c.requires.within in
+    let within = shown_within c.args.pieces.now c.args.from c.requires.can.within in
     errs _ c.in_err-left.field-0.0 _ _ c.from_residual.ensures.1 (fault_on Relational Additive 6 4 tokens c.args.names.now c.args.names.now _ c.args.from c.args.from c.in_err-left.field-0.0 (omega arith) (λ to f. relation_first_fails tokens c.args.from within to f) c.in_err-left.ensures.tree)
 
 pub relational-returns-in_default-clause-tree : goal.relational-returns-in_default-clause-tree
 relational-returns-in_default-clause-tree t c =
     let tokens = lexemes c.args.pieces.now in
-    let within = shown_within c.args.pieces.now c.args.from c.requires.within in
+    let within = shown_within c.args.pieces.now c.args.from c.requires.can.within in
     let bare = sym c.in_ok-left.ensures.tree.bare in
     let left_shape = expr_shape c.additive.new.names c.in_ok-left.left.expr in
     goes_on Relational (Compared left_shape) 6 6 tokens c.args.names.now c.additive.new.names c.compared.new.names c.args.from c.args.node c.in_ok-left.left.end c.in_ok-left.left c.compared.result
-    (c.in_ok-left.ensures.names) c.in_ok-left.ensures.tree.nodes
+    (c.in_ok-left.ensures.went.few) c.in_ok-left.ensures.tree.nodes
     (λ e to y. relation_reads tokens c.args.from within left_shape c.in_ok-left.left.end c.in_ok-left.ensures.tree.reads (λ i p next s. c.in_default.ensures.value i p next (subst (λ b. ShiftAt tokens c.in_ok-left.left.end b i p next) bare s)) e to y)
     (λ to y. relation_fails tokens c.args.from within left_shape c.in_ok-left.left.end c.in_ok-left.ensures.tree.reads (λ i p next s. c.in_default.ensures.value i p next (subst (λ b. ShiftAt tokens c.in_ok-left.left.end b i p next) bare s)) to y)
     c.compared.ensures.tree
@@ -131,9 +131,9 @@ relational-returns-in_default-clause-tree t c =
 pub relational-returns-in-Err-clause-tree : goal.relational-returns-in-Err-clause-tree
 relational-returns-in-Err-clause-tree t c =
     let tokens = lexemes c.args.pieces.now in
-    let within = shown_within c.args.pieces.now c.args.from c.requires.within in
+    let within = shown_within c.args.pieces.now c.args.from c.requires.can.within in
     errs _ c.in-Err.fault _ _ c.refuse.ensures
-    (fault_on Relational Unary 6 2 tokens c.args.names.now c.additive.new.names _ c.args.from c.in-Some.next c.in-Err.fault (omega (arith, c.in_ok-left.ensures.names, c.in-Some.ensures.further))
+    (fault_on Relational Unary 6 2 tokens c.args.names.now c.additive.new.names _ c.args.from c.in-Some.next c.in-Err.fault (omega (arith, c.in_ok-left.ensures.went.few, c.in-Some.ensures.further))
     (λ to f. relation_operand_fails tokens c.args.from within (expr_shape c.additive.new.names c.in_ok-left.left.expr) c.in_ok-left.left.end c.in_ok-left.ensures.tree.reads c.in-Some.operator c.in-Some.place
     c.in-Some.next (subst (λ b. ShiftAt tokens c.in_ok-left.left.end b c.in-Some.operator c.in-Some.place c.in-Some.next) c.in_ok-left.ensures.tree.bare c.in-Some.ensures.value) to f)
     c.in-Err.ensures.tree)
@@ -143,15 +143,15 @@ relational-returns-in_err-left-2-clause-tree t c =
     let tokens = lexemes c.args.pieces.now in
     errs _ c.in_err-left-2.field-0.0 _ _ c.from_residual-in_err-left-2.ensures.1
     (no_memory Relational 6 tokens c.args.names.now c.unary.new.names c.args.from c.in_err-left-2.field-0.0 c.in_err-left-2.ensures
-    (omega (arith, c.in_ok-left.ensures.names, c.in-Some.ensures.further, c.in-Ok.ensures.names, c.in-Ok.ensures.within, length-map c.args.pieces.now lexeme)))
+    (omega (arith, c.in_ok-left.ensures.went.few, c.in-Some.ensures.further, c.in-Ok.ensures.went.few, c.in-Ok.ensures.went.within, length-map c.args.pieces.now lexeme)))
 
 pub relational-returns-clause-tree : goal.relational-returns-clause-tree
 relational-returns-clause-tree t c =
     let tokens = lexemes c.args.pieces.now in
-    let within = shown_within c.args.pieces.now c.args.from c.requires.within in
+    let within = shown_within c.args.pieces.now c.args.from c.requires.can.within in
     shifted_on tokens c.additive.new.names c.unary.new.names c.args.from c.args.node within c.in_ok-left.left c.in-Ok.right c.in_ok-left-2.left c.in-Some.operator c.in-Some.place c.in-Some.next
     c.in_ok-left.ensures.tree c.in-Ok.ensures.grows c.in-Some.ensures.value c.in-Ok.ensures.tree c.in_ok-left-2.ensures c.args.names.now c.compared-2.new.names c.compared-2.result
-    (let end : c.in_ok-left-2.left.end ≡ c.in-Ok.right.end = ap (λ y. y.end) c.in_ok-left-2.ensures in omega (arith, c.in_ok-left.ensures.names, c.in-Some.ensures.further, c.in-Ok.ensures.names, c.in-Ok.ensures.within))
+    (let end : c.in_ok-left-2.left.end ≡ c.in-Ok.right.end = ap (λ y. y.end) c.in_ok-left-2.ensures in omega (arith, c.in_ok-left.ensures.went.few, c.in-Some.ensures.further, c.in-Ok.ensures.went.few, c.in-Ok.ensures.went.within))
     c.compared-2.ensures.tree
 
 pub compared-returns-in_default-clause-tree : goal.compared-returns-in_default-clause-tree
@@ -160,7 +160,7 @@ compared-returns-in_default-clause-tree t c =
     let left_shape = expr_shape c.args.names.now c.args.left.expr in
     reads_tree (Compared left_shape) 6 tokens c.args.names.now (expr_nodes c.args.left.expr) c.args.left.end c.args.left.node c.args.left
     (here_tree c.args.names.now c.args.left c.requires.known c.requires.bare)
-    (compared_none left_shape tokens c.args.left.end c.in_default.ensures.value (shown_within c.args.pieces.now c.args.left.end c.requires.within))
+    (compared_none left_shape tokens c.args.left.end c.in_default.ensures.value (shown_within c.args.pieces.now c.args.left.end c.requires.can.within))
 
 pub compared-returns-in-Err-clause-tree : goal.compared-returns-in-Err-clause-tree
 compared-returns-in-Err-clause-tree t c =
@@ -168,7 +168,7 @@ compared-returns-in-Err-clause-tree t c =
     let left_shape = expr_shape c.args.names.now c.args.left.expr in
     errs _ c.in-Err.fault _ _ c.refuse.ensures
     (fault_on (Compared left_shape) Shift 6 6 tokens c.args.names.now c.args.names.now _ c.args.left.end c.in-Some.next c.in-Err.fault (omega (arith, c.in-Some.ensures.further))
-    (λ to f. compared_fails left_shape tokens c.args.left.end c.in-Some.operator c.in-Some.place c.in-Some.next c.in-Some.ensures.value (shown_within c.args.pieces.now c.args.left.end c.requires.within) to f)
+    (λ to f. compared_fails left_shape tokens c.args.left.end c.in-Some.operator c.in-Some.place c.in-Some.next c.in-Some.ensures.value (shown_within c.args.pieces.now c.args.left.end c.requires.can.within) to f)
     c.in-Err.ensures.tree)
 
 pub compared-returns-clause-tree : goal.compared-returns-clause-tree
@@ -176,21 +176,21 @@ compared-returns-clause-tree t c =
     let tokens = lexemes c.args.pieces.now in
     let old = c.args.names.now in
     builds (Compared (expr_shape old c.args.left.expr)) 6 tokens old c.shift.new.names (expr_nodes c.args.left.expr) c.args.left.end c.args.left.node _ c.infix.result
-    (omega (arith, c.in-Some.ensures.further, c.in-Ok.ensures.names, c.in-Ok.ensures.within, length-map c.args.pieces.now lexeme))
+    (omega (arith, c.in-Some.ensures.further, c.in-Ok.ensures.went.few, c.in-Ok.ensures.went.within, length-map c.args.pieces.now lexeme))
     (λ p same. compared_tree tokens old c.shift.new.names c.args.left c.requires.known c.requires.bare c.in-Ok.ensures.grows p c.in-Ok.right c.in-Some.operator c.in-Some.place c.in-Some.next
-    (shown_within c.args.pieces.now c.args.left.end c.requires.within) c.in-Some.ensures.value c.in-Ok.ensures.tree same)
+    (shown_within c.args.pieces.now c.args.left.end c.requires.can.within) c.in-Some.ensures.value c.in-Ok.ensures.tree same)
     c.infix.ensures
 
 pub shift-returns-in_err-left-clause-tree : goal.shift-returns-in_err-left-clause-tree
 shift-returns-in_err-left-clause-tree t c =
     let tokens = lexemes c.args.pieces.now in
-    let within = shown_within c.args.pieces.now c.args.from c.requires.within in
+    let within = shown_within c.args.pieces.now c.args.from c.requires.can.within in
     errs _ c.in_err-left.field-0.0 _ _ c.from_residual.ensures.1 (fault_on Shift Additive 6 4 tokens c.args.names.now c.args.names.now _ c.args.from c.args.from c.in_err-left.field-0.0 (omega arith) (λ to f. shift_first_fails tokens c.args.from within to f) c.in_err-left.ensures.tree)
 
 pub shift-returns-then-not-left-clause-tree : goal.shift-returns-then-not-left-clause-tree
 shift-returns-then-not-left-clause-tree t c =
     let tokens = lexemes c.args.pieces.now in
-    let within = shown_within c.args.pieces.now c.args.from c.requires.within in
+    let within = shown_within c.args.pieces.now c.args.from c.requires.can.within in
     read_as Shift Additive 6 4 tokens _ _ _ _ _ c.in_ok-left.ensures.tree
     (λ x. shift_alone tokens c.args.from within _ _ x (λ p b is. let bad : true ≡ false = sym b ∙ sym c.in_ok-left.ensures.tree.bare ∙ not-true _ c.if-not-left.true in cc)
     (λ i p next s. c.in_default.ensures.value i p next (subst (λ b. ShiftAt tokens c.in_ok-left.left.end b i p next) (sym c.in_ok-left.ensures.tree.bare) s)))
@@ -198,7 +198,7 @@ shift-returns-then-not-left-clause-tree t c =
 pub shift-returns-then-is_none-clause-tree : goal.shift-returns-then-is_none-clause-tree
 shift-returns-then-is_none-clause-tree t c =
     let tokens = lexemes c.args.pieces.now in
-    let within = shown_within c.args.pieces.now c.args.from c.requires.within in
+    let within = shown_within c.args.pieces.now c.args.from c.requires.can.within in
     read_as Shift Additive 6 4 tokens _ _ _ _ _ c.in_ok-left.ensures.tree
     (λ x. shift_alone tokens c.args.from within _ _ x (λ p b is. told_none _ _ _ c.if-is_none.ensures c.mark_at.ensures.value p is)
     (λ i p next s. c.in_default.ensures.value i p next (subst (λ b. ShiftAt tokens c.in_ok-left.left.end b i p next) (sym c.in_ok-left.ensures.tree.bare) s)))
@@ -206,11 +206,11 @@ shift-returns-then-is_none-clause-tree t c =
 pub shift-returns-in_default-clause-tree : goal.shift-returns-in_default-clause-tree
 shift-returns-in_default-clause-tree t c =
     let tokens = lexemes c.args.pieces.now in
-    let within = shown_within c.args.pieces.now c.args.from c.requires.within in
+    let within = shown_within c.args.pieces.now c.args.from c.requires.can.within in
     let behind = c.in_ok-left.left.end + 1 in
     let bare = sym c.in_ok-left.ensures.tree.bare in
     errs _ (fault.Unexpected behind) _ _ c.refuse.ensures
-    (fails_here Shift 6 tokens c.args.names.now c.additive.new.names c.args.from behind (omega (arith, c.in_ok-left.ensures.names))
+    (fails_here Shift 6 tokens c.args.names.now c.additive.new.names c.args.from behind (omega (arith, c.in_ok-left.ensures.went.few))
     (let m : (p : Place) × (slice_get tokens c.in_ok-left.left.end ≡ Some (Mark sign.Greater p)) = told_some _ _ _ c.if-is_none.ensures c.mark_at.ensures.value in
     shift_stuck tokens c.args.from within (expr_shape c.additive.new.names c.in_ok-left.left.expr) c.in_ok-left.left.end c.in_ok-left.ensures.tree.reads m.0 (bare ∙ not-false _ c.if-not-left.false) m.1
     (λ i p next s. c.in_default.ensures.value i p next (subst (λ b. ShiftAt tokens c.in_ok-left.left.end b i p next) bare s))))
@@ -218,9 +218,9 @@ shift-returns-in_default-clause-tree t c =
 pub shift-returns-in-Err-clause-tree : goal.shift-returns-in-Err-clause-tree
 shift-returns-in-Err-clause-tree t c =
     let tokens = lexemes c.args.pieces.now in
-    let within = shown_within c.args.pieces.now c.args.from c.requires.within in
+    let within = shown_within c.args.pieces.now c.args.from c.requires.can.within in
     errs _ c.in-Err.fault _ _ c.refuse-in-Err.ensures
-    (fault_on Shift Unary 6 2 tokens c.args.names.now c.additive.new.names _ c.args.from c.in-Some.next c.in-Err.fault (omega (arith, c.in_ok-left.ensures.names, c.in-Some.ensures.further))
+    (fault_on Shift Unary 6 2 tokens c.args.names.now c.additive.new.names _ c.args.from c.in-Some.next c.in-Err.fault (omega (arith, c.in_ok-left.ensures.went.few, c.in-Some.ensures.further))
     (λ to f. shift_operand_fails tokens c.args.from within (expr_shape c.additive.new.names c.in_ok-left.left.expr) c.in_ok-left.left.end c.in_ok-left.ensures.tree.reads c.in-Some.operator c.in-Some.place
     c.in-Some.next (subst (λ b. ShiftAt tokens c.in_ok-left.left.end b c.in-Some.operator c.in-Some.place c.in-Some.next) c.in_ok-left.ensures.tree.bare c.in-Some.ensures.value) to f)
     c.in-Err.ensures.tree)
@@ -228,9 +228,9 @@ shift-returns-in-Err-clause-tree t c =
 pub shift-returns-clause-tree : goal.shift-returns-clause-tree
 shift-returns-clause-tree t c =
     let tokens = lexemes c.args.pieces.now in
-    let within = shown_within c.args.pieces.now c.args.from c.requires.within in
+    let within = shown_within c.args.pieces.now c.args.from c.requires.can.within in
     builds Shift 6 tokens c.args.names.now c.unary.new.names [] c.args.from c.args.node _ c.infix.result
-    (omega (arith, c.in_ok-left.ensures.names, c.in-Some.ensures.further, c.in-Ok.ensures.names, c.in-Ok.ensures.within, length-map c.args.pieces.now lexeme))
+    (omega (arith, c.in_ok-left.ensures.went.few, c.in-Some.ensures.further, c.in-Ok.ensures.went.few, c.in-Ok.ensures.went.within, length-map c.args.pieces.now lexeme))
     (λ p same. shift_tree tokens c.additive.new.names c.unary.new.names c.args.from c.args.node within c.in_ok-left.left c.in-Ok.right p c.in-Some.operator c.in-Some.place c.in-Some.next c.in_ok-left.ensures.tree
     c.in-Ok.ensures.grows c.in-Some.ensures.value c.in-Ok.ensures.tree same)
     c.infix.ensures
@@ -238,16 +238,16 @@ shift-returns-clause-tree t c =
 pub additive-returns-in_err-left-clause-tree : goal.additive-returns-in_err-left-clause-tree
 additive-returns-in_err-left-clause-tree t c =
     let tokens = lexemes c.args.pieces.now in
-    let within = shown_within c.args.pieces.now c.args.from c.requires.within in
+    let within = shown_within c.args.pieces.now c.args.from c.requires.can.within in
     errs _ c.in_err-left.field-0.0 _ _ c.from_residual.ensures.1
     (fault_on Additive Multiplicative 4 3 tokens c.args.names.now c.args.names.now _ c.args.from c.args.from c.in_err-left.field-0.0 (omega arith) (λ to f. left_first_fails Additive Multiplicative Term 4 3 terms tokens c.args.from to within f) c.in_err-left.ensures.tree)
 
 pub additive-terms-init : goal.additive-terms-init
 additive-terms-init t c =
     let tokens = lexemes c.args.pieces.now in
-    let within = shown_within c.args.pieces.now c.args.from c.requires.within in
+    let within = shown_within c.args.pieces.now c.args.from c.requires.can.within in
     turn_first Additive Multiplicative Term 4 3 terms tokens (length c.args.pieces.now) c.args.from within c.args.names.now c.multiplicative.new.names c.args.node c.in_ok-left.left
-    c.in_ok-left.ensures.tree c.in_ok-left.ensures.grows c.in_ok-left.ensures.further c.in_ok-left.ensures.within c.in_ok-left.ensures.node c.in_ok-left.ensures.names
+    c.in_ok-left.ensures.tree c.in_ok-left.ensures.grows c.in_ok-left.ensures.went.further c.in_ok-left.ensures.went.within c.in_ok-left.ensures.went.numbered c.in_ok-left.ensures.went.few
 
 pub additive-returns-in-Err-clause-tree : goal.additive-returns-in-Err-clause-tree
 additive-returns-in-Err-clause-tree t c =
@@ -260,13 +260,13 @@ pub additive-returns-in_err-left-2-clause-tree : goal.additive-returns-in_err-le
 additive-returns-in_err-left-2-clause-tree t c =
     let tokens = lexemes c.args.pieces.now in
     errs _ c.in_err-left-2.field-0.0 _ _ c.from_residual-in_err-left-2.ensures.1
-    (no_memory Additive 4 tokens c.args.names.now c.multiplicative-in-Some.new.names c.args.from c.in_err-left-2.field-0.0 c.in_err-left-2.ensures (omega (arith, c.terms.invariant.few, c.in-Ok.ensures.names, c.in-Ok.ensures.within, length-map c.args.pieces.now lexeme)))
+    (no_memory Additive 4 tokens c.args.names.now c.multiplicative-in-Some.new.names c.args.from c.in_err-left-2.field-0.0 c.in_err-left-2.ensures (omega (arith, c.terms.invariant.few, c.in-Ok.ensures.went.few, c.in-Ok.ensures.went.within, length-map c.args.pieces.now lexeme)))
 
 pub additive-terms-preserved : goal.additive-terms-preserved
 additive-terms-preserved t c =
     let tokens = lexemes c.args.pieces.now in
     turn_infix Additive 4 (Tail Term) tokens (length c.args.pieces.now) c.args.names.now c.terms.names c.multiplicative-in-Some.new.names [] c.args.from c.args.node (c.args.from + 1) c.terms.left
-    c.terms.invariant Multiplicative 3 c.in-Ok.right _ _ _ c.in-Ok.ensures.grows c.in-Ok.ensures.tree c.in-Ok.ensures.further c.in-Ok.ensures.within c.in-Ok.ensures.node c.in-Ok.ensures.names
+    c.terms.invariant Multiplicative 3 c.in-Ok.right _ _ _ c.in-Ok.ensures.grows c.in-Ok.ensures.tree c.in-Ok.ensures.went.further c.in-Ok.ensures.went.within c.in-Ok.ensures.went.numbered c.in-Ok.ensures.went.few
     c.in_ok-left-2.ensures
     (λ s x. term_more tokens c.args.from c.terms.left.end (expr_shape c.multiplicative-in-Some.new.names c.terms.left.expr) s _ _ c.in-Some.ensures.value c.in-Ok.right.end (expr_shape c.multiplicative-in-Some.new.names c.in-Ok.right.expr) x)
 
@@ -278,16 +278,16 @@ additive-returns-clause-tree t c =
 pub multiplicative-returns-in_err-left-clause-tree : goal.multiplicative-returns-in_err-left-clause-tree
 multiplicative-returns-in_err-left-clause-tree t c =
     let tokens = lexemes c.args.pieces.now in
-    let within = shown_within c.args.pieces.now c.args.from c.requires.within in
+    let within = shown_within c.args.pieces.now c.args.from c.requires.can.within in
     errs _ c.in_err-left.field-0.0 _ _ c.from_residual.ensures.1
     (fault_on Multiplicative Unary 3 2 tokens c.args.names.now c.args.names.now _ c.args.from c.args.from c.in_err-left.field-0.0 (omega arith) (λ to f. left_first_fails Multiplicative Unary Factor 3 2 factors tokens c.args.from to within f) c.in_err-left.ensures.tree)
 
 pub multiplicative-factors-init : goal.multiplicative-factors-init
 multiplicative-factors-init t c =
     let tokens = lexemes c.args.pieces.now in
-    let within = shown_within c.args.pieces.now c.args.from c.requires.within in
+    let within = shown_within c.args.pieces.now c.args.from c.requires.can.within in
     turn_first Multiplicative Unary Factor 3 2 factors tokens (length c.args.pieces.now) c.args.from within c.args.names.now c.unary.new.names c.args.node c.in_ok-left.left c.in_ok-left.ensures.tree
-    c.in_ok-left.ensures.grows c.in_ok-left.ensures.further c.in_ok-left.ensures.within c.in_ok-left.ensures.node c.in_ok-left.ensures.names
+    c.in_ok-left.ensures.grows c.in_ok-left.ensures.went.further c.in_ok-left.ensures.went.within c.in_ok-left.ensures.went.numbered c.in_ok-left.ensures.went.few
 
 pub multiplicative-returns-in-Err-clause-tree : goal.multiplicative-returns-in-Err-clause-tree
 multiplicative-returns-in-Err-clause-tree t c =
@@ -300,13 +300,13 @@ pub multiplicative-returns-in_err-left-2-clause-tree : goal.multiplicative-retur
 multiplicative-returns-in_err-left-2-clause-tree t c =
     let tokens = lexemes c.args.pieces.now in
     errs _ c.in_err-left-2.field-0.0 _ _ c.from_residual-in_err-left-2.ensures.1
-    (no_memory Multiplicative 3 tokens c.args.names.now c.unary-in-Some.new.names c.args.from c.in_err-left-2.field-0.0 c.in_err-left-2.ensures (omega (arith, c.factors.invariant.few, c.in-Ok.ensures.names, c.in-Ok.ensures.within, length-map c.args.pieces.now lexeme)))
+    (no_memory Multiplicative 3 tokens c.args.names.now c.unary-in-Some.new.names c.args.from c.in_err-left-2.field-0.0 c.in_err-left-2.ensures (omega (arith, c.factors.invariant.few, c.in-Ok.ensures.went.few, c.in-Ok.ensures.went.within, length-map c.args.pieces.now lexeme)))
 
 pub multiplicative-factors-preserved : goal.multiplicative-factors-preserved
 multiplicative-factors-preserved t c =
     let tokens = lexemes c.args.pieces.now in
     turn_infix Multiplicative 3 (Tail Factor) tokens (length c.args.pieces.now) c.args.names.now c.factors.names c.unary-in-Some.new.names [] c.args.from c.args.node (c.args.from + 1) c.factors.left
-    c.factors.invariant Unary 2 c.in-Ok.right _ _ _ c.in-Ok.ensures.grows c.in-Ok.ensures.tree c.in-Ok.ensures.further c.in-Ok.ensures.within c.in-Ok.ensures.node c.in-Ok.ensures.names
+    c.factors.invariant Unary 2 c.in-Ok.right _ _ _ c.in-Ok.ensures.grows c.in-Ok.ensures.tree c.in-Ok.ensures.went.further c.in-Ok.ensures.went.within c.in-Ok.ensures.went.numbered c.in-Ok.ensures.went.few
     c.in_ok-left-2.ensures
     (λ s x. factor_more tokens c.args.from c.factors.left.end (expr_shape c.unary-in-Some.new.names c.factors.left.expr) s _ _ c.in-Some.ensures.value c.in-Ok.right.end (expr_shape c.unary-in-Some.new.names c.in-Ok.right.expr) x)
 
@@ -318,7 +318,7 @@ multiplicative-returns-clause-tree t c =
 pub unary-returns-in_default-clause-tree : goal.unary-returns-in_default-clause-tree
 unary-returns-in_default-clause-tree t c =
     let tokens = lexemes c.args.pieces.now in
-    let within = shown_within c.args.pieces.now c.args.from c.requires.within in
+    let within = shown_within c.args.pieces.now c.args.from c.requires.can.within in
     goes_as Unary Singular 2 2 tokens c.args.names.now c.singular.new.names c.args.from c.args.node c.singular.result
     (λ e to y. free_reads prefix_of Unary Singular unary_there unary_by (λ r ts w g. operand g) singular_free tokens c.args.from within c.in_default.ensures.value to e y)
     (λ to y. free_fails prefix_of Unary Singular unary_there unary_by (λ r ts w g. operand g) singular_free tokens c.args.from within c.in_default.ensures.value to y) c.singular.ensures.tree
@@ -326,7 +326,7 @@ unary-returns-in_default-clause-tree t c =
 pub unary-returns-in_err-operand-clause-tree : goal.unary-returns-in_err-operand-clause-tree
 unary-returns-in_err-operand-clause-tree t c =
     let tokens = lexemes c.args.pieces.now in
-    let within = shown_within c.args.pieces.now c.args.from c.requires.within in
+    let within = shown_within c.args.pieces.now c.args.from c.requires.can.within in
     errs _ c.in_err-operand.field-0.0 _ _ c.from_residual.ensures.1
     (fault_on Unary Unary 2 2 tokens c.args.names.now c.args.names.now _ c.args.from (c.args.from + 1) c.in_err-operand.field-0.0 (omega arith)
     (λ to f. prefix_fails prefix_of Unary Singular unary_there unary_by (λ r ts w g. operand g) singular_free tokens c.args.from within c.in-Some.operator c.in-Some.place c.in-Some.ensures.value to f)
@@ -335,9 +335,9 @@ unary-returns-in_err-operand-clause-tree t c =
 pub unary-returns-clause-tree : goal.unary-returns-clause-tree
 unary-returns-clause-tree t c =
     let tokens = lexemes c.args.pieces.now in
-    let within = shown_within c.args.pieces.now c.args.from c.requires.within in
+    let within = shown_within c.args.pieces.now c.args.from c.requires.can.within in
     builds Unary 2 tokens c.args.names.now c.unary.new.names [] c.args.from c.args.node _ c.prefix.result
-    (omega (arith, c.in_ok-operand.ensures.names, c.in_ok-operand.ensures.within, length-map c.args.pieces.now lexeme))
+    (omega (arith, c.in_ok-operand.ensures.went.few, c.in_ok-operand.ensures.went.within, length-map c.args.pieces.now lexeme))
     (λ p same. prefix_tree Unary 2 tokens c.unary.new.names [] c.args.from c.args.node p c.in_ok-operand.operand c.in-Some.operator c.in-Some.place same
     (tree_of Unary 2 tokens c.unary.new.names [] (c.args.from + 1) c.args.node c.in_ok-operand.operand c.in_ok-operand.ensures.tree)
     (prefix_reads prefix_of Unary Singular unary_there unary_by (λ r ts w g. operand g) singular_free tokens c.args.from within c.in-Some.operator c.in-Some.place c.in-Some.ensures.value
@@ -347,23 +347,23 @@ unary-returns-clause-tree t c =
 pub singular-returns-in_err-whole-clause-tree : goal.singular-returns-in_err-whole-clause-tree
 singular-returns-in_err-whole-clause-tree t c =
     let tokens = lexemes c.args.pieces.now in
-    let within = shown_within c.args.pieces.now c.args.from c.requires.within in
+    let within = shown_within c.args.pieces.now c.args.from c.requires.can.within in
     errs _ c.in_err-whole.field-0.0 _ _ c.from_residual.ensures.1
     (fault_on Singular Primary 2 1 tokens c.args.names.now c.args.names.now _ c.args.from c.args.from c.in_err-whole.field-0.0 (omega arith) (λ to f. left_first_fails Singular Primary AccessStep 2 1 accesses tokens c.args.from to within f) c.in_err-whole.ensures.tree)
 
 pub singular-returns-clause-tree : goal.singular-returns-clause-tree
 singular-returns-clause-tree t c =
     let tokens = lexemes c.args.pieces.now in
-    let within = shown_within c.args.pieces.now c.args.from c.requires.within in
+    let within = shown_within c.args.pieces.now c.args.from c.requires.can.within in
     let whole_shape = expr_shape c.primary.new.names c.in_ok-whole.whole.expr in
     let rest = Tail AccessStep whole_shape in
     let stage = left_first Singular Primary AccessStep 2 1 accesses tokens c.args.from c.in_ok-whole.whole.end whole_shape within c.in_ok-whole.ensures.tree.reads in
     goes_on Singular rest 2 2 tokens c.args.names.now c.primary.new.names c.accesses.new.names c.args.from c.args.node c.in_ok-whole.whole.end c.in_ok-whole.whole c.accesses.result
-    (c.in_ok-whole.ensures.names) c.in_ok-whole.ensures.tree.nodes (λ e to y. then_reads Singular rest 2 tokens c.args.from c.in_ok-whole.whole.end to stage e y)
+    (c.in_ok-whole.ensures.went.few) c.in_ok-whole.ensures.tree.nodes (λ e to y. then_reads Singular rest 2 tokens c.args.from c.in_ok-whole.whole.end to stage e y)
     (λ to y. then_fails Singular rest 2 tokens c.args.from c.in_ok-whole.whole.end to stage y) c.accesses.ensures.tree
 
 pub accesses-steps-init : goal.accesses-steps-init
-accesses-steps-init t c = turn_here 2 (Tail AccessStep) (lexemes c.args.pieces.now) (length c.args.pieces.now) c.args.names.now c.args.first (shown_within c.args.pieces.now c.args.first.end c.requires.within) c.requires.within c.requires.known c.requires.bare
+accesses-steps-init t c = turn_here 2 (Tail AccessStep) (lexemes c.args.pieces.now) (length c.args.pieces.now) c.args.names.now c.args.first (shown_within c.args.pieces.now c.args.first.end c.requires.can.within) c.requires.can.within c.requires.known c.requires.bare
 
 pub accesses-returns-in_err-whole-clause-tree : goal.accesses-returns-in_err-whole-clause-tree
 accesses-returns-in_err-whole-clause-tree t c =
@@ -382,7 +382,7 @@ accesses-steps-preserved-in-Some t c =
     let first_shape = expr_shape c.args.names.now c.args.first.expr in
     turn_step (Tail AccessStep first_shape) 2 (Tail AccessStep) tokens (length c.args.pieces.now) c.args.names.now c.steps.names c.by_name.new.names (expr_nodes c.args.first.expr) c.args.first.end
     c.args.first.node c.args.first.end c.steps.whole c.steps.invariant (MemberStep whole_shape c.in-Some.dot) 1 c.in_ok-whole.whole c.in_ok-whole.ensures.grows c.in_ok-whole.ensures.tree
-    c.in_ok-whole.ensures.further c.in_ok-whole.ensures.within c.in_ok-whole.ensures.node c.in_ok-whole.ensures.names
+    c.in_ok-whole.ensures.further c.in_ok-whole.ensures.went.within c.in_ok-whole.ensures.went.numbered c.in_ok-whole.ensures.went.few
     (λ s x. member_reads first_shape tokens c.args.first.end c.steps.whole.end whole_shape c.steps.invariant.stage c.in-Some.dot c.in_ok-whole.whole.end c.in-Some.ensures.value (expr_shape c.by_name.new.names c.in_ok-whole.whole.expr) x)
 
 pub accesses-returns-in_err-whole-2-clause-tree : goal.accesses-returns-in_err-whole-2-clause-tree
@@ -403,7 +403,7 @@ accesses-steps-preserved t c =
     let first_shape = expr_shape c.args.names.now c.args.first.expr in
     turn_step (Tail AccessStep first_shape) 2 (Tail AccessStep) tokens (length c.args.pieces.now) c.args.names.now c.steps.names c.by_index.new.names (expr_nodes c.args.first.expr) c.args.first.end
     c.args.first.node c.args.first.end c.steps.whole c.steps.invariant (IndexStep whole_shape c.in-Some-mark_at.bracket) 1 c.in_ok-whole-2.whole c.in_ok-whole-2.ensures.grows c.in_ok-whole-2.ensures.tree
-    c.in_ok-whole-2.ensures.further c.in_ok-whole-2.ensures.within c.in_ok-whole-2.ensures.node c.in_ok-whole-2.ensures.names
+    c.in_ok-whole-2.ensures.further c.in_ok-whole-2.ensures.went.within c.in_ok-whole-2.ensures.went.numbered c.in_ok-whole-2.ensures.went.few
     (λ s x. index_reads first_shape tokens c.args.first.end c.steps.whole.end whole_shape c.steps.invariant.stage c.in-Some-mark_at.bracket c.in_ok-whole-2.whole.end c.in-Some-mark_at.ensures.value (expr_shape c.by_index.new.names c.in_ok-whole-2.whole.expr) x)
 
 pub accesses-returns-in_default-mark_at-clause-tree : goal.accesses-returns-in_default-mark_at-clause-tree
@@ -426,7 +426,7 @@ by_index-returns-then-is_none-clause-tree t c =
     let tokens = lexemes c.args.pieces.now in
     let whole_shape = expr_shape c.args.names.now c.args.whole.expr in
     errs _ (fault.Unexpected c.in-Ok.at.end) _ _ c.refuse-then-is_none.ensures
-    (fails_here (IndexStep whole_shape c.args.bracket) 1 tokens c.args.names.now c.expression.new.names (c.args.whole.end + 1) c.in-Ok.at.end (omega (arith, c.in-Ok.ensures.names))
+    (fails_here (IndexStep whole_shape c.args.bracket) 1 tokens c.args.names.now c.expression.new.names (c.args.whole.end + 1) c.in-Ok.at.end (omega (arith, c.in-Ok.ensures.went.few))
     (by_index_open whole_shape c.args.bracket tokens (c.args.whole.end + 1) (shown_within c.args.pieces.now (c.args.whole.end + 1) c.requires.within) (expr_shape c.expression.new.names c.in-Ok.at.expr)
     c.in-Ok.at.end c.in-Ok.ensures.tree.reads (λ q is. told_none _ _ _ c.if-is_none.ensures c.mark_at.ensures.value q is)))
 
@@ -435,7 +435,7 @@ by_index-returns-clause-tree t c =
     let tokens = lexemes c.args.pieces.now in
     let old = c.args.names.now in
     builds (IndexStep (expr_shape old c.args.whole.expr) c.args.bracket) 1 tokens old c.expression.new.names (expr_nodes c.args.whole.expr) (c.args.whole.end + 1) c.args.whole.node _ c.index.result
-    (omega (arith, c.in-Ok.ensures.names, c.in-Ok.ensures.within, length-map c.args.pieces.now lexeme))
+    (omega (arith, c.in-Ok.ensures.went.few, c.in-Ok.ensures.went.within, length-map c.args.pieces.now lexeme))
     (λ p same. let m : (q : Place) × (slice_get tokens c.in-Ok.at.end ≡ Some (Mark sign.CloseBracket q)) = told_some _ _ _ c.if-is_none.ensures c.mark_at.ensures.value in
     by_index_tree tokens old c.expression.new.names c.args.whole c.requires.known c.requires.bare c.in-Ok.ensures.grows p c.in-Ok.at c.args.bracket m.0 (shown_within c.args.pieces.now (c.args.whole.end + 1) c.requires.within) c.in-Ok.ensures.tree m.1 same)
     c.index.ensures
@@ -446,7 +446,7 @@ primary-returns-then-is_some-clause-tree t c = c.call_or_type.ensures.tree
 pub primary-returns-in-Some-clause-tree : goal.primary-returns-in-Some-clause-tree
 primary-returns-in-Some-clause-tree t c =
     let tokens = lexemes c.args.pieces.now in
-    let within = shown_within c.args.pieces.now c.args.from c.requires.within in
+    let within = shown_within c.args.pieces.now c.args.from c.requires.can.within in
     leaf_tree Primary 1 tokens c.args.names.now c.args.from c.args.node c.leaf.result _
     (leaf_number c.args.names.now c.args.node c.leaf.result c.in-Some.place (c.args.from + 1) c.in-Some.value c.in-Some.suffix c.leaf.ensures) (ap (λ x. x.end) c.leaf.ensures)
     (numeral_reads tokens c.args.from within c.in-Some.place c.in-Some.value c.in-Some.suffix c.in-Some.ensures.value)
@@ -454,7 +454,7 @@ primary-returns-in-Some-clause-tree t c =
 pub primary-returns-in-Some-key_at-clause-tree : goal.primary-returns-in-Some-key_at-clause-tree
 primary-returns-in-Some-key_at-clause-tree t c =
     let tokens = lexemes c.args.pieces.now in
-    let within = shown_within c.args.pieces.now c.args.from c.requires.within in
+    let within = shown_within c.args.pieces.now c.args.from c.requires.can.within in
     leaf_tree Primary 1 tokens c.args.names.now c.args.from c.args.node c.leaf-in-Some-key_at.result _
     (leaf_true c.args.names.now c.args.node c.leaf-in-Some-key_at.result c.in-Some-key_at.place (c.args.from + 1) c.leaf-in-Some-key_at.ensures) (ap (λ x. x.end) c.leaf-in-Some-key_at.ensures)
     (true_reads tokens c.args.from within c.in-Some-key_at.place c.in-Some-key_at.ensures.value)
@@ -462,7 +462,7 @@ primary-returns-in-Some-key_at-clause-tree t c =
 pub primary-returns-in-Some-key_at-2-clause-tree : goal.primary-returns-in-Some-key_at-2-clause-tree
 primary-returns-in-Some-key_at-2-clause-tree t c =
     let tokens = lexemes c.args.pieces.now in
-    let within = shown_within c.args.pieces.now c.args.from c.requires.within in
+    let within = shown_within c.args.pieces.now c.args.from c.requires.can.within in
     leaf_tree Primary 1 tokens c.args.names.now c.args.from c.args.node c.leaf-in-Some-key_at-2.result _
     (leaf_false c.args.names.now c.args.node c.leaf-in-Some-key_at-2.result c.in-Some-key_at-2.place (c.args.from + 1) c.leaf-in-Some-key_at-2.ensures) (ap (λ x. x.end) c.leaf-in-Some-key_at-2.ensures)
     (false_reads tokens c.args.from within c.in-Some-key_at-2.place c.in-Some-key_at-2.ensures.value)
@@ -470,30 +470,30 @@ primary-returns-in-Some-key_at-2-clause-tree t c =
 pub in_parens-returns-in_default-clause-tree : goal.in_parens-returns-in_default-clause-tree
 in_parens-returns-in_default-clause-tree t c =
     let tokens = lexemes c.args.pieces.now in
-    let within = shown_within c.args.pieces.now c.args.from c.requires.within in
+    let within = shown_within c.args.pieces.now c.args.from c.requires.can.within in
     fails_here Primary 1 tokens c.args.names.now c.args.names.now c.args.from c.args.from (omega arith) (primary_stuck tokens c.args.from within c.requires.none c.in_default.ensures.value)
 
 pub in_parens-returns-in_err-inner-clause-tree : goal.in_parens-returns-in_err-inner-clause-tree
 in_parens-returns-in_err-inner-clause-tree t c =
     let tokens = lexemes c.args.pieces.now in
-    let within = shown_within c.args.pieces.now c.args.from c.requires.within in
+    let within = shown_within c.args.pieces.now c.args.from c.requires.can.within in
     errs _ c.in_err-inner.field-0.0 _ _ c.from_residual.ensures.1
     (fault_on Primary Expression 1 7 tokens c.args.names.now c.args.names.now _ c.args.from (c.args.from + 1) c.in_err-inner.field-0.0 (omega arith) (λ to f. paren_fails tokens c.args.from within c.in-Some.place c.in-Some.ensures.value to f) c.in_err-inner.ensures.tree)
 
 pub in_parens-returns-then-is_none-clause-tree : goal.in_parens-returns-then-is_none-clause-tree
 in_parens-returns-then-is_none-clause-tree t c =
     let tokens = lexemes c.args.pieces.now in
-    let within = shown_within c.args.pieces.now c.args.from c.requires.within in
+    let within = shown_within c.args.pieces.now c.args.from c.requires.can.within in
     errs _ (fault.Unexpected c.in_ok-inner.inner.end) _ _ c.refuse.ensures
-    (fails_here Primary 1 tokens c.args.names.now c.expression.new.names c.args.from c.in_ok-inner.inner.end (omega (arith, c.in_ok-inner.ensures.names))
+    (fails_here Primary 1 tokens c.args.names.now c.expression.new.names c.args.from c.in_ok-inner.inner.end (omega (arith, c.in_ok-inner.ensures.went.few))
     (paren_open tokens c.args.from within c.in-Some.place c.in-Some.ensures.value (expr_shape c.expression.new.names c.in_ok-inner.inner.expr) c.in_ok-inner.inner.end c.in_ok-inner.ensures.tree.reads (λ q is. told_none _ _ _ c.if-is_none.ensures c.mark_at-2.ensures.value q is)))
 
 pub in_parens-returns-clause-tree : goal.in_parens-returns-clause-tree
 in_parens-returns-clause-tree t c =
     let tokens = lexemes c.args.pieces.now in
-    let within = shown_within c.args.pieces.now c.args.from c.requires.within in
+    let within = shown_within c.args.pieces.now c.args.from c.requires.can.within in
     builds Primary 1 tokens c.args.names.now c.expression.new.names [] c.args.from c.args.node _ c.paren.result
-    (omega (arith, c.in_ok-inner.ensures.names, c.in_ok-inner.ensures.within, length-map c.args.pieces.now lexeme))
+    (omega (arith, c.in_ok-inner.ensures.went.few, c.in_ok-inner.ensures.went.within, length-map c.args.pieces.now lexeme))
     (λ p same. let m : (q : Place) × (slice_get tokens c.in_ok-inner.inner.end ≡ Some (Mark sign.Close q)) = told_some _ _ _ c.if-is_none.ensures c.mark_at-2.ensures.value in
     paren_tree tokens c.expression.new.names c.args.from c.args.node within p c.in_ok-inner.inner c.in-Some.place m.0 c.in-Some.ensures.value c.in_ok-inner.ensures.tree m.1 same)
     c.paren.ensures
@@ -501,24 +501,24 @@ in_parens-returns-clause-tree t c =
 pub call_or_type-returns-in_err-callee-clause-tree : goal.call_or_type-returns-in_err-callee-clause-tree
 call_or_type-returns-in_err-callee-clause-tree t c =
     let tokens = lexemes c.args.pieces.now in
-    let within = shown_within c.args.pieces.now c.args.from c.requires.within in
+    let within = shown_within c.args.pieces.now c.args.from c.requires.can.within in
     errs _ c.in_err-callee.field-0.0 _ _ c.from_residual.ensures.1
     (fault_on Primary TypeName 1 0 tokens c.args.names.now c.args.names.now _ c.args.from c.args.from c.in_err-callee.field-0.0 (omega arith) (λ to f. word_fails tokens c.args.from within c.requires.word to f) c.in_err-callee.ensures.tree)
 
 pub call_or_type-returns-then-is_none-clause-tree : goal.call_or_type-returns-then-is_none-clause-tree
 call_or_type-returns-then-is_none-clause-tree t c =
     let tokens = lexemes c.args.pieces.now in
-    let within = shown_within c.args.pieces.now c.args.from c.requires.within in
+    let within = shown_within c.args.pieces.now c.args.from c.requires.can.within in
     read_as Primary TypeName 1 0 tokens _ _ _ _ _ c.in_ok-callee.ensures.tree (λ x. word_alone tokens c.args.from within c.requires.word _ _ x (λ q is. told_none _ _ _ c.if-is_none.ensures c.mark_at.ensures.value q is))
 
 pub call_or_type-returns-clause-tree : goal.call_or_type-returns-clause-tree
 call_or_type-returns-clause-tree t c =
     let tokens = lexemes c.args.pieces.now in
-    let within = shown_within c.args.pieces.now c.args.from c.requires.within in
+    let within = shown_within c.args.pieces.now c.args.from c.requires.can.within in
     let callee_shape = expr_shape c.type_name.new.names c.in_ok-callee.callee.expr in
     let m : (q : Place) × (slice_get tokens c.in_ok-callee.callee.end ≡ Some (Mark sign.Open q)) = told_some _ _ _ c.if-is_none.ensures c.mark_at.ensures.value in
     goes_on Primary (Called callee_shape) 1 1 tokens c.args.names.now c.type_name.new.names c.called.new.names c.args.from c.args.node (c.in_ok-callee.callee.end + 1) c.in_ok-callee.callee c.called.result
-    (omega (arith, c.in_ok-callee.ensures.names)) c.in_ok-callee.ensures.tree.nodes
+    (omega (arith, c.in_ok-callee.ensures.went.few)) c.in_ok-callee.ensures.tree.nodes
     (λ e to y. word_call tokens c.args.from within c.requires.word callee_shape c.in_ok-callee.callee.end c.in_ok-callee.ensures.tree.reads m.0 m.1 to e y)
     (λ to y. word_call_fails tokens c.args.from within c.requires.word callee_shape c.in_ok-callee.callee.end c.in_ok-callee.ensures.tree.reads m.0 m.1 to y)
     c.called.ensures.tree
@@ -536,14 +536,14 @@ called-returns-clause-tree t c =
     let tokens = lexemes c.args.pieces.now in
     let old = c.args.names.now in
     builds (Called (expr_shape old c.args.callee.expr)) 1 tokens old c.arguments.new.names (expr_nodes c.args.callee.expr) (c.args.callee.end + 1) c.args.callee.node _ c.call.result
-    (omega (arith, c.in-Ok.ensures.names, c.in-Ok.ensures.within, length-map c.args.pieces.now lexeme))
+    (omega (arith, c.in-Ok.ensures.went.few, c.in-Ok.ensures.went.within, length-map c.args.pieces.now lexeme))
     (λ p same. called_tree tokens old c.arguments.new.names c.args.callee c.requires.known c.requires.bare c.in-Ok.ensures.grows p c.in-Ok.list (shown_within c.args.pieces.now (c.args.callee.end + 1) c.requires.within) c.in-Ok.ensures.tree same)
     c.call.ensures
 
 pub type_name-returns-in_default-clause-tree : goal.type_name-returns-in_default-clause-tree
 type_name-returns-in_default-clause-tree t c =
     let tokens = lexemes c.args.pieces.now in
-    let within = shown_within c.args.pieces.now c.args.from c.requires.within in
+    let within = shown_within c.args.pieces.now c.args.from c.requires.can.within in
     fails_here TypeName 0 tokens c.args.names.now c.args.names.now c.args.from c.args.from (omega arith) (type_stuck tokens c.args.from within c.in_default.ensures.value)
 
 pub type_name-returns-in_err-name-clause-tree : goal.type_name-returns-in_err-name-clause-tree
@@ -554,7 +554,7 @@ type_name-returns-in_err-name-clause-tree t c =
 pub type_name-returns-then-is_none-clause-tree : goal.type_name-returns-then-is_none-clause-tree
 type_name-returns-then-is_none-clause-tree t c =
     let tokens = lexemes c.args.pieces.now in
-    let within = shown_within c.args.pieces.now c.args.from c.requires.within in
+    let within = shown_within c.args.pieces.now c.args.from c.requires.can.within in
     leaf_tree TypeName 0 tokens c.number.new.names c.args.from c.args.node c.leaf.result _
     (leaf_name c.number.new.names c.args.node c.leaf.result c.in-Some.place (c.args.from + 1) c.in_ok-name.name _ c.leaf.ensures c.in_ok-name.ensures.text) (ap (λ x. x.end) c.leaf.ensures)
     (type_alone tokens c.args.from within _ c.in-Some.place c.in-Some.ensures.value (λ q is. told_none _ _ _ c.if-is_none.ensures c.mark_at.ensures.value q is))
@@ -562,7 +562,7 @@ type_name-returns-then-is_none-clause-tree t c =
 pub type_name-returns-in_err-arguments-clause-tree : goal.type_name-returns-in_err-arguments-clause-tree
 type_name-returns-in_err-arguments-clause-tree t c =
     let tokens = lexemes c.args.pieces.now in
-    let within = shown_within c.args.pieces.now c.args.from c.requires.within in
+    let within = shown_within c.args.pieces.now c.args.from c.requires.can.within in
     errs _ c.in_err-arguments.field-0.0 _ _ c.from_residual-in_err-arguments.ensures.1
     (fault_on TypeName (Closed (Listed Expression) (Mark sign.CloseTemplate)) 0 0 tokens c.args.names.now c.number.new.names _ c.args.from (c.args.from + 2) c.in_err-arguments.field-0.0
     (omega (arith, c.number.ensures.few))
@@ -572,7 +572,7 @@ type_name-returns-in_err-arguments-clause-tree t c =
 pub type_name-returns-clause-tree : goal.type_name-returns-clause-tree
 type_name-returns-clause-tree t c =
     let tokens = lexemes c.args.pieces.now in
-    let within = shown_within c.args.pieces.now c.args.from c.requires.within in
+    let within = shown_within c.args.pieces.now c.args.from c.requires.can.within in
     let m : (q : Place) × (slice_get tokens (c.args.from + 1) ≡ Some (Mark sign.OpenTemplate q)) = told_some _ _ _ c.if-is_none.ensures c.mark_at.ensures.value in template_tree tokens c.list.new.names
     c.args.from c.args.node within c.template.result c.in_ok-arguments.arguments c.in-Some.place m.0 c.in_ok-name.name _ c.in-Some.ensures.value
     (name_stays c.number.new.names c.list.new.names c.in_ok-name.name _ c.in_ok-name.ensures.text c.in_ok-arguments.ensures.grows) m.1 c.in_ok-arguments.ensures.tree c.template.ensures
@@ -580,7 +580,7 @@ type_name-returns-clause-tree t c =
 pub arguments-returns-then-is_some-clause-tree : goal.arguments-returns-then-is_some-clause-tree
 arguments-returns-then-is_some-clause-tree t c =
     let tokens = lexemes c.args.pieces.now in
-    let within = shown_within c.args.pieces.now c.args.from c.requires.within in
+    let within = shown_within c.args.pieces.now c.args.from c.requires.can.within in
     let m : (q : Place) × (slice_get tokens c.args.from ≡ Some (Mark sign.Close q)) = told_some _ _ _ (sym c.if-is_some.ensures) c.mark_at.ensures.value in subst
     (λ l. ReadsList (Closed (MaybeListed Expression) (Mark sign.Close)) 0 tokens c.args.names.now c.args.from c.args.node (record { items = l; trailing = false; end = c.args.from + 1; node = c.args.node }))
     (sym c.new.ensures) (record { reads = arguments_none tokens c.args.from within m.0 m.1; known = omega arith; nodes = refl })
@@ -588,14 +588,14 @@ arguments-returns-then-is_some-clause-tree t c =
 pub arguments-returns-clause-tree : goal.arguments-returns-clause-tree
 arguments-returns-clause-tree t c =
     let tokens = lexemes c.args.pieces.now in
-    let within = shown_within c.args.pieces.now c.args.from c.requires.within in
+    let within = shown_within c.args.pieces.now c.args.from c.requires.can.within in
     let told = sym c.if-is_some.ensures in
     lists_as (Closed (MaybeListed Expression) (Mark sign.Close)) (Closed (Listed Expression) (Mark sign.Close)) 0 0 tokens c.args.names.now c.list.new.names c.args.from c.args.node c.list.result
     (λ e to y. arguments_reads tokens c.args.from within (λ q is. told_none _ _ _ told c.mark_at.ensures.value q is) e to y)
     (λ to y. arguments_fails tokens c.args.from within (λ q is. told_none _ _ _ told c.mark_at.ensures.value q is) to y) c.list.ensures.tree
 
 pub list-items-init : goal.list-items-init
-list-items-init t c = turn_list c.args.closer c.requires.closes (lexemes c.args.pieces.now) (length c.args.pieces.now) c.args.names.now c.args.from c.args.start _ c.new-items.ensures (shown_within c.args.pieces.now c.args.from c.requires.within) c.requires.within
+list-items-init t c = turn_list c.args.closer c.requires.closes (lexemes c.args.pieces.now) (length c.args.pieces.now) c.args.names.now c.args.from c.args.start _ c.new-items.ensures (shown_within c.args.pieces.now c.args.from c.requires.can.within) c.requires.can.within
 
 pub list-returns-in_err-item-clause-tree : goal.list-returns-in_err-item-clause-tree
 list-returns-in_err-item-clause-tree t c =
@@ -610,7 +610,7 @@ list-returns-in_err-push-clause-tree t c =
     let tokens = lexemes c.args.pieces.now in
     errs _ c.in_err-push.field-0.0 _ _ c.from_residual-in_err-push.ensures.1
     (no_memory (Closed (Listed Expression) (Mark c.args.closer)) 0 tokens c.args.names.now c.expression.new.names c.args.from c.in_err-push.field-0.0 c.in_err-push.ensures
-    (omega (arith, c.items.invariant.few, c.in_ok-item.ensures.names, c.in_ok-item.ensures.within, length-map c.args.pieces.now lexeme)))
+    (omega (arith, c.items.invariant.few, c.in_ok-item.ensures.went.few, c.in_ok-item.ensures.went.within, length-map c.args.pieces.now lexeme)))
 
 pub list-returns-then-is_some-clause-tree : goal.list-returns-then-is_some-clause-tree
 list-returns-then-is_some-clause-tree t c =
@@ -623,7 +623,7 @@ pub list-returns-then-is_none-clause-tree : goal.list-returns-then-is_none-claus
 list-returns-then-is_none-clause-tree t c =
     let tokens = lexemes c.args.pieces.now in
     fails_here (Closed (Listed Expression) (Mark c.args.closer)) 0 tokens c.args.names.now c.expression.new.names c.args.from c.in_ok-item.item.end
-    (omega (arith, c.items.invariant.few, c.in_ok-item.ensures.names))
+    (omega (arith, c.items.invariant.few, c.in_ok-item.ensures.went.few))
     (turn_stuck c.args.closer c.requires.closes tokens (length c.args.pieces.now) c.args.names.now c.items.names c.expression.new.names c.args.from c.args.start c.items.items c.push.new.items c.items.at
     c.items.node c.items.invariant c.in_ok-item.ensures.grows c.in_ok-item.item c.in_ok-item.ensures.tree c.in_ok-push.ensures
     (λ q is. told_none _ _ _ (sym c.if-is_some.ensures) c.mark_at.ensures.value q is) (λ q is. told_none _ _ _ c.if-is_none.ensures c.mark_at-in-items.ensures.value q is))
@@ -642,144 +642,8 @@ list-items-preserved t c =
     let m : (q : Place) × (slice_get tokens c.in_ok-item.item.end ≡ Some (Mark sign.Comma q)) = told_some _ _ _ (c.if-is_none.ensures) c.mark_at-in-items.ensures.value in turn_more c.args.closer
     c.requires.closes tokens (length c.args.pieces.now) c.args.names.now c.items.names c.expression.new.names c.args.from c.args.start c.items.items c.push.new.items c.items.at c.items.node
     c.items.invariant c.in_ok-item.ensures.grows c.in_ok-item.item c.in_ok-item.ensures.tree c.in_ok-push.ensures m.0 m.1
-    (λ q is. told_none _ _ _ (sym c.if-is_some-2.ensures) c.mark_at-in-items-2.ensures.value q is) c.in_ok-item.ensures.further
-    (omega (arith, slice_get_within tokens c.in_ok-item.item.end _ m.1, length-map c.args.pieces.now lexeme)) c.in_ok-item.ensures.node c.in_ok-item.ensures.names
-
-pub expression-returns-clause-further : goal.expression-returns-clause-further
-expression-returns-clause-further t c = if_ok c.joined.result _ _ c.joined.ensures.further (λ p le. omega (arith, le, c.in_ok-left.ensures.further, c.in_ok-left.ensures.within, c.in_ok-left.ensures.node, c.in_ok-left.ensures.names))
-
-pub expression-returns-clause-node : goal.expression-returns-clause-node
-expression-returns-clause-node t c = if_ok c.joined.result _ _ c.joined.ensures.node (λ p le. omega (arith, le, c.in_ok-left.ensures.further, c.in_ok-left.ensures.within, c.in_ok-left.ensures.node, c.in_ok-left.ensures.names))
-
-pub expression-returns-clause-names : goal.expression-returns-clause-names
-expression-returns-clause-names t c = if_ok c.joined.result _ _ c.joined.ensures.names (λ p le. omega (arith, le, c.in_ok-left.ensures.further, c.in_ok-left.ensures.within, c.in_ok-left.ensures.node, c.in_ok-left.ensures.names))
-
-pub relational-returns-in_default-clause-further : goal.relational-returns-in_default-clause-further
-relational-returns-in_default-clause-further t c = if_ok c.compared.result _ _ c.compared.ensures.further (λ p le. omega (arith, le, c.in_ok-left.ensures.further, c.in_ok-left.ensures.within, c.in_ok-left.ensures.node, c.in_ok-left.ensures.names))
-
-pub relational-returns-in_default-clause-node : goal.relational-returns-in_default-clause-node
-relational-returns-in_default-clause-node t c = if_ok c.compared.result _ _ c.compared.ensures.node (λ p le. omega (arith, le, c.in_ok-left.ensures.further, c.in_ok-left.ensures.within, c.in_ok-left.ensures.node, c.in_ok-left.ensures.names))
-
-pub relational-returns-in_default-clause-names : goal.relational-returns-in_default-clause-names
-relational-returns-in_default-clause-names t c = if_ok c.compared.result _ _ c.compared.ensures.names (λ p le. omega (arith, le, c.in_ok-left.ensures.further, c.in_ok-left.ensures.within, c.in_ok-left.ensures.node, c.in_ok-left.ensures.names))
-
-pub singular-returns-clause-further : goal.singular-returns-clause-further
-singular-returns-clause-further t c = if_ok c.accesses.result _ _ c.accesses.ensures.further (λ p le. omega (arith, le, c.in_ok-whole.ensures.further, c.in_ok-whole.ensures.within, c.in_ok-whole.ensures.node, c.in_ok-whole.ensures.names))
-
-pub singular-returns-clause-node : goal.singular-returns-clause-node
-singular-returns-clause-node t c = if_ok c.accesses.result _ _ c.accesses.ensures.node (λ p le. omega (arith, le, c.in_ok-whole.ensures.further, c.in_ok-whole.ensures.within, c.in_ok-whole.ensures.node, c.in_ok-whole.ensures.names))
-
-pub singular-returns-clause-names : goal.singular-returns-clause-names
-singular-returns-clause-names t c = if_ok c.accesses.result _ _ c.accesses.ensures.names (λ p le. omega (arith, le, c.in_ok-whole.ensures.further, c.in_ok-whole.ensures.within, c.in_ok-whole.ensures.node, c.in_ok-whole.ensures.names))
-
-pub call_or_type-returns-clause-further : goal.call_or_type-returns-clause-further
-call_or_type-returns-clause-further t c = if_ok c.called.result _ _ c.called.ensures.further (λ p le. omega (arith, le, c.in_ok-callee.ensures.further, c.in_ok-callee.ensures.within, c.in_ok-callee.ensures.node, c.in_ok-callee.ensures.names))
-
-pub call_or_type-returns-clause-node : goal.call_or_type-returns-clause-node
-call_or_type-returns-clause-node t c = if_ok c.called.result _ _ c.called.ensures.node (λ p le. omega (arith, le, c.in_ok-callee.ensures.further, c.in_ok-callee.ensures.within, c.in_ok-callee.ensures.node, c.in_ok-callee.ensures.names))
-
-pub call_or_type-returns-clause-names : goal.call_or_type-returns-clause-names
-call_or_type-returns-clause-names t c = if_ok c.called.result _ _ c.called.ensures.names (λ p le. omega (arith, le, c.in_ok-callee.ensures.further, c.in_ok-callee.ensures.within, c.in_ok-callee.ensures.node, c.in_ok-callee.ensures.names))
-
-pub relational-returns-clause-further : goal.relational-returns-clause-further
-relational-returns-clause-further t c =
-    let end : c.in_ok-left-2.left.end ≡ c.in-Ok.right.end = ap (λ y. y.end) c.in_ok-left-2.ensures in let node : c.in_ok-left-2.left.node ≡ c.in-Ok.right.node + 1 = ap (λ y. y.node) c.in_ok-left-2.ensures
-    in if_ok c.compared-2.result _ _ c.compared-2.ensures.further
-    (λ p le. omega (arith, le, end, node, c.in_ok-left.ensures.further, c.in_ok-left.ensures.within, c.in_ok-left.ensures.node, c.in_ok-left.ensures.names, c.in-Some.ensures.further, c.in-Ok.ensures.further, c.in-Ok.ensures.within, c.in-Ok.ensures.node, c.in-Ok.ensures.names))
-
-pub relational-returns-clause-node : goal.relational-returns-clause-node
-relational-returns-clause-node t c =
-    let end : c.in_ok-left-2.left.end ≡ c.in-Ok.right.end = ap (λ y. y.end) c.in_ok-left-2.ensures in let node : c.in_ok-left-2.left.node ≡ c.in-Ok.right.node + 1 = ap (λ y. y.node) c.in_ok-left-2.ensures
-    in if_ok c.compared-2.result _ _ c.compared-2.ensures.node
-    (λ p le. omega (arith, le, end, node, c.in_ok-left.ensures.further, c.in_ok-left.ensures.within, c.in_ok-left.ensures.node, c.in_ok-left.ensures.names, c.in-Some.ensures.further, c.in-Ok.ensures.further, c.in-Ok.ensures.within, c.in-Ok.ensures.node, c.in-Ok.ensures.names))
-
-pub relational-returns-clause-names : goal.relational-returns-clause-names
-relational-returns-clause-names t c =
-    let end : c.in_ok-left-2.left.end ≡ c.in-Ok.right.end = ap (λ y. y.end) c.in_ok-left-2.ensures in let node : c.in_ok-left-2.left.node ≡ c.in-Ok.right.node + 1 = ap (λ y. y.node) c.in_ok-left-2.ensures
-    in if_ok c.compared-2.result _ _ c.compared-2.ensures.names
-    (λ p le. omega (arith, le, end, node, c.in_ok-left.ensures.further, c.in_ok-left.ensures.within, c.in_ok-left.ensures.node, c.in_ok-left.ensures.names, c.in-Some.ensures.further, c.in-Ok.ensures.further, c.in-Ok.ensures.within, c.in-Ok.ensures.node, c.in-Ok.ensures.names))
-
-pub compared-returns-clause-further : goal.compared-returns-clause-further
-compared-returns-clause-further t c = if_built c.infix.result _ _ _ c.infix.ensures (omega (arith, c.in-Some.ensures.further, c.in-Ok.ensures.further, c.in-Ok.ensures.within, c.in-Ok.ensures.node, c.in-Ok.ensures.names))
-
-pub shift-returns-clause-further : goal.shift-returns-clause-further
-shift-returns-clause-further t c =
-    if_built c.infix.result _ _ _ c.infix.ensures (omega (arith, c.in_ok-left.ensures.further, c.in_ok-left.ensures.within, c.in_ok-left.ensures.node, c.in_ok-left.ensures.names, c.in-Some.ensures.further, c.in-Ok.ensures.further, c.in-Ok.ensures.within, c.in-Ok.ensures.node, c.in-Ok.ensures.names))
-
-pub unary-returns-clause-further : goal.unary-returns-clause-further
-unary-returns-clause-further t c = if_built c.prefix.result _ _ _ c.prefix.ensures (omega (arith, c.in_ok-operand.ensures.further, c.in_ok-operand.ensures.within, c.in_ok-operand.ensures.node, c.in_ok-operand.ensures.names))
-
-pub called-returns-clause-further : goal.called-returns-clause-further
-called-returns-clause-further t c = if_built c.call.result _ _ _ c.call.ensures (omega (arith, c.in-Ok.ensures.further, c.in-Ok.ensures.within, c.in-Ok.ensures.node, c.in-Ok.ensures.names))
-
-pub compared-returns-clause-within : goal.compared-returns-clause-within
-compared-returns-clause-within t c = if_built c.infix.result _ _ _ c.infix.ensures (omega (arith, c.in-Some.ensures.further, c.in-Ok.ensures.further, c.in-Ok.ensures.within, c.in-Ok.ensures.node, c.in-Ok.ensures.names))
-
-pub shift-returns-clause-within : goal.shift-returns-clause-within
-shift-returns-clause-within t c =
-    if_built c.infix.result _ _ _ c.infix.ensures (omega (arith, c.in_ok-left.ensures.further, c.in_ok-left.ensures.within, c.in_ok-left.ensures.node, c.in_ok-left.ensures.names, c.in-Some.ensures.further, c.in-Ok.ensures.further, c.in-Ok.ensures.within, c.in-Ok.ensures.node, c.in-Ok.ensures.names))
-
-pub unary-returns-clause-within : goal.unary-returns-clause-within
-unary-returns-clause-within t c = if_built c.prefix.result _ _ _ c.prefix.ensures (omega (arith, c.in_ok-operand.ensures.further, c.in_ok-operand.ensures.within, c.in_ok-operand.ensures.node, c.in_ok-operand.ensures.names))
-
-pub called-returns-clause-within : goal.called-returns-clause-within
-called-returns-clause-within t c = if_built c.call.result _ _ _ c.call.ensures (omega (arith, c.in-Ok.ensures.further, c.in-Ok.ensures.within, c.in-Ok.ensures.node, c.in-Ok.ensures.names))
-
-pub compared-returns-clause-node : goal.compared-returns-clause-node
-compared-returns-clause-node t c = if_built c.infix.result _ _ _ c.infix.ensures (omega (arith, c.in-Some.ensures.further, c.in-Ok.ensures.further, c.in-Ok.ensures.within, c.in-Ok.ensures.node, c.in-Ok.ensures.names))
-
-pub shift-returns-clause-node : goal.shift-returns-clause-node
-shift-returns-clause-node t c =
-    if_built c.infix.result _ _ _ c.infix.ensures (omega (arith, c.in_ok-left.ensures.further, c.in_ok-left.ensures.within, c.in_ok-left.ensures.node, c.in_ok-left.ensures.names, c.in-Some.ensures.further, c.in-Ok.ensures.further, c.in-Ok.ensures.within, c.in-Ok.ensures.node, c.in-Ok.ensures.names))
-
-pub unary-returns-clause-node : goal.unary-returns-clause-node
-unary-returns-clause-node t c = if_built c.prefix.result _ _ _ c.prefix.ensures (omega (arith, c.in_ok-operand.ensures.further, c.in_ok-operand.ensures.within, c.in_ok-operand.ensures.node, c.in_ok-operand.ensures.names))
-
-pub called-returns-clause-node : goal.called-returns-clause-node
-called-returns-clause-node t c = if_built c.call.result _ _ _ c.call.ensures (omega (arith, c.in-Ok.ensures.further, c.in-Ok.ensures.within, c.in-Ok.ensures.node, c.in-Ok.ensures.names))
-
-pub compared-returns-clause-names : goal.compared-returns-clause-names
-compared-returns-clause-names t c = if_built c.infix.result _ _ _ c.infix.ensures (omega (arith, c.in-Some.ensures.further, c.in-Ok.ensures.further, c.in-Ok.ensures.within, c.in-Ok.ensures.node, c.in-Ok.ensures.names))
-
-pub shift-returns-clause-names : goal.shift-returns-clause-names
-shift-returns-clause-names t c =
-    if_built c.infix.result _ _ _ c.infix.ensures (omega (arith, c.in_ok-left.ensures.further, c.in_ok-left.ensures.within, c.in_ok-left.ensures.node, c.in_ok-left.ensures.names, c.in-Some.ensures.further, c.in-Ok.ensures.further, c.in-Ok.ensures.within, c.in-Ok.ensures.node, c.in-Ok.ensures.names))
-
-pub unary-returns-clause-names : goal.unary-returns-clause-names
-unary-returns-clause-names t c = if_built c.prefix.result _ _ _ c.prefix.ensures (omega (arith, c.in_ok-operand.ensures.further, c.in_ok-operand.ensures.within, c.in_ok-operand.ensures.node, c.in_ok-operand.ensures.names))
-
-pub called-returns-clause-names : goal.called-returns-clause-names
-called-returns-clause-names t c = if_built c.call.result _ _ _ c.call.ensures (omega (arith, c.in-Ok.ensures.further, c.in-Ok.ensures.within, c.in-Ok.ensures.node, c.in-Ok.ensures.names))
-
-pub by_index-returns-clause-further : goal.by_index-returns-clause-further
-by_index-returns-clause-further t c = if_built c.index.result _ _ _ c.index.ensures (omega (arith, c.in-Ok.ensures.further, c.in-Ok.ensures.within, c.in-Ok.ensures.node, c.in-Ok.ensures.names))
-
-pub in_parens-returns-clause-further : goal.in_parens-returns-clause-further
-in_parens-returns-clause-further t c = if_built c.paren.result _ _ _ c.paren.ensures (omega (arith, c.in_ok-inner.ensures.further, c.in_ok-inner.ensures.within, c.in_ok-inner.ensures.node, c.in_ok-inner.ensures.names))
-
-pub by_index-returns-clause-within : goal.by_index-returns-clause-within
-by_index-returns-clause-within t c =
-    let tokens = lexemes c.args.pieces.now in
-    let m : (q : Place) × (slice_get tokens c.in-Ok.at.end ≡ Some (Mark sign.CloseBracket q)) = told_some _ _ _ c.if-is_none.ensures c.mark_at.ensures.value in if_built c.index.result _ _ _
-    c.index.ensures (omega (arith, slice_get_within tokens c.in-Ok.at.end _ m.1, length-map c.args.pieces.now lexeme))
-
-pub in_parens-returns-clause-within : goal.in_parens-returns-clause-within
-in_parens-returns-clause-within t c =
-    let tokens = lexemes c.args.pieces.now in
-    let m : (q : Place) × (slice_get tokens c.in_ok-inner.inner.end ≡ Some (Mark sign.Close q)) = told_some _ _ _ c.if-is_none.ensures c.mark_at-2.ensures.value in if_built c.paren.result _ _ _
-    c.paren.ensures (omega (arith, slice_get_within tokens c.in_ok-inner.inner.end _ m.1, length-map c.args.pieces.now lexeme))
-
-pub by_index-returns-clause-node : goal.by_index-returns-clause-node
-by_index-returns-clause-node t c = if_built c.index.result _ _ _ c.index.ensures (omega (arith, c.in-Ok.ensures.further, c.in-Ok.ensures.within, c.in-Ok.ensures.node, c.in-Ok.ensures.names))
-
-pub in_parens-returns-clause-node : goal.in_parens-returns-clause-node
-in_parens-returns-clause-node t c = if_built c.paren.result _ _ _ c.paren.ensures (omega (arith, c.in_ok-inner.ensures.further, c.in_ok-inner.ensures.within, c.in_ok-inner.ensures.node, c.in_ok-inner.ensures.names))
-
-pub by_index-returns-clause-names : goal.by_index-returns-clause-names
-by_index-returns-clause-names t c = if_built c.index.result _ _ _ c.index.ensures (omega (arith, c.in-Ok.ensures.further, c.in-Ok.ensures.within, c.in-Ok.ensures.node, c.in-Ok.ensures.names))
-
-pub in_parens-returns-clause-names : goal.in_parens-returns-clause-names
-in_parens-returns-clause-names t c = if_built c.paren.result _ _ _ c.paren.ensures (omega (arith, c.in_ok-inner.ensures.further, c.in_ok-inner.ensures.within, c.in_ok-inner.ensures.node, c.in_ok-inner.ensures.names))
+    (λ q is. told_none _ _ _ (sym c.if-is_some-2.ensures) c.mark_at-in-items-2.ensures.value q is) c.in_ok-item.ensures.went.further
+    (omega (arith, slice_get_within tokens c.in_ok-item.item.end _ m.1, length-map c.args.pieces.now lexeme)) c.in_ok-item.ensures.went.numbered c.in_ok-item.ensures.went.few
 
 pub call_or_type-called-requires : goal.call_or_type-called-requires
 call_or_type-called-requires t c =
@@ -792,25 +656,6 @@ type_name-list-requires t c =
     let tokens = lexemes c.args.pieces.now in
     let m : (q : Place) × (slice_get tokens (c.args.from + 1) ≡ Some (Mark sign.OpenTemplate q)) = told_some _ _ _ c.if-is_none.ensures c.mark_at.ensures.value in let fits : c.args.from + 2 ≤ length
     c.args.pieces.now = omega (arith, slice_get_within tokens (c.args.from + 1) _ m.1, length-map c.args.pieces.now lexeme) in search (rules, arith)
-
-pub arguments-returns-then-is_some-clause-within : goal.arguments-returns-then-is_some-clause-within
-arguments-returns-then-is_some-clause-within t c =
-    let tokens = lexemes c.args.pieces.now in
-    let m : (q : Place) × (slice_get tokens c.args.from ≡ Some (Mark sign.Close q)) = told_some _ _ _ (sym c.if-is_some.ensures) c.mark_at.ensures.value in omega (arith, slice_get_within tokens c.args.from _ m.1, length-map c.args.pieces.now lexeme)
-
-pub list-returns-then-is_some-clause-within : goal.list-returns-then-is_some-clause-within
-list-returns-then-is_some-clause-within t c =
-    let tokens = lexemes c.args.pieces.now in
-    let m : (q : Place) × (slice_get tokens c.in_ok-item.item.end ≡ Some (Mark c.args.closer q)) = told_some _ _ _ (sym c.if-is_some.ensures) c.mark_at.ensures.value in let end : c.listing.result.end ≡
-    c.in_ok-item.item.end + 1 = ap (λ y. y.end) c.listing.ensures in omega (arith, end, slice_get_within tokens c.in_ok-item.item.end _ m.1, length-map c.args.pieces.now lexeme)
-
-pub list-returns-then-is_some-2-clause-within : goal.list-returns-then-is_some-2-clause-within
-list-returns-then-is_some-2-clause-within t c =
-    let tokens = lexemes c.args.pieces.now in
-    let behind = c.in_ok-item.item.end + 1 in
-    let m : (q : Place) × (slice_get tokens behind ≡ Some (Mark c.args.closer q)) = told_some _ _ _ (sym c.if-is_some-2.ensures) c.mark_at-in-items-2.ensures.value in let end :
-    c.listing-then-is_some-2.result.end ≡ c.in_ok-item.item.end + 1 + 1 = ap (λ y. y.end) c.listing-then-is_some-2.ensures in omega
-    (arith, end, slice_get_within tokens behind _ m.1, length-map c.args.pieces.now lexeme)
 
 pub expression-returns-clause-grows : goal.expression-returns-clause-grows
 expression-returns-clause-grows t c = grows_trans _ _ _ c.in_ok-left.ensures.grows c.joined.ensures.grows

@@ -6,7 +6,7 @@ use Rattle.shade_parse_expr.proofs.Accesses.{by_name_tree}
 use Rattle.shade_parse_expr.proofs.Primaries.{by_name_fails}
 use Rattle.shade_parse_expr.proofs.Readings.{builds}
 use Rattle.shade_cursor.proofs.Tokens.{shown_within}
-use Rattle.shade_parse_expr.proofs.Turns.{errs, fails_here, if_built, no_memory}
+use Rattle.shade_parse_expr.proofs.Turns.{errs, fails_here, no_memory}
 use Rattle.shade_cursor.specs.Shown.{lexeme, lexemes}
 use Rattle.std.proofs.lemmas.List.{length-map}
 use Rattle.shade_cursor.specs.declared.part.Fault.TheVariants as fault
@@ -35,15 +35,3 @@ returns-clause-tree c =
     (omega (arith, c.number.ensures.few, c.in-Some.ensures.within, length-map c.args.pieces.now lexeme))
     (λ p same. by_name_tree tokens old c.number.new.names c.args.whole c.requires.known c.requires.bare c.number.ensures.grows p c.args.dot c.in-Some.place c.in-Ok.name _ c.in-Some.ensures.value c.in-Ok.ensures.text same)
     c.member.ensures
-
-pub returns-clause-further : goal.returns-clause-further
-returns-clause-further c = if_built c.member.result _ _ _ c.member.ensures (omega (arith, c.in-Some.ensures.within, c.number.ensures.few))
-
-pub returns-clause-within : goal.returns-clause-within
-returns-clause-within c = if_built c.member.result _ _ _ c.member.ensures (omega (arith, c.in-Some.ensures.within, c.number.ensures.few))
-
-pub returns-clause-node : goal.returns-clause-node
-returns-clause-node c = if_built c.member.result _ _ _ c.member.ensures (omega (arith, c.in-Some.ensures.within, c.number.ensures.few))
-
-pub returns-clause-names : goal.returns-clause-names
-returns-clause-names c = if_built c.member.result _ _ _ c.member.ensures (omega (arith, c.in-Some.ensures.within, c.number.ensures.few))
