@@ -4,5 +4,6 @@ mod FactLaws
 mod KeyLaws
 mod ScopeLaws
 mod StandingLaws
+mod TableLaws
 mod Tells
 mod TypeLaws

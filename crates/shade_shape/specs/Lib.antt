@@ -1,3 +1,4 @@
 pub mod Depths
 pub mod Facts
+pub mod Tables
 pub mod Within

@@ -13,6 +13,7 @@ mod scopes;
 mod signature;
 mod standing;
 mod switches;
+mod tables;
 mod types;
 
 pub use bodies::{are_numbered, ends_with_return};
@@ -24,4 +25,5 @@ pub use scopes::is_in_scope;
 pub use signature::{access_fits, has_lanes, is_pointer, is_signature, may_give, may_take};
 pub use standing::{Listed, statements_of};
 pub use switches::{has_one_fallback, is_switch};
+pub use tables::{are_nested, has_scalars, is_table};
 pub use types::Types;
