@@ -4,6 +4,7 @@
 mod attr;
 mod expr;
 mod lexeme;
+mod name_key;
 mod names;
 mod stmt;
 mod tree;
@@ -11,6 +12,7 @@ mod tree;
 pub use attr::{Arguments, Attr, AttrName};
 pub use expr::{Expr, ExprKind, Infix, Named, Prefix};
 pub use lexeme::{Keyword, Sign};
+pub use name_key::NameKey;
 pub use names::Names;
 pub use stmt::{
     Arm, Binding, Block, BreakIf, Clause, Continuing, OpAssign, Otherwise, Selector, Simple, Stmt,

@@ -3,6 +3,7 @@
 ghost use Rattle.std.specs.Prelude.{◌≡◌, ◌<◌, ◌^◌, [], Some, length, slice_get, IfOk, OnOk, OnErr};
 ghost use Rattle.shade_ast.specs.Names.{number_in, with_name, IsDistinct, Grows};
 
+use crate::name_key::NameKey;
 use indexmap::IndexSet;
 use std::alloc::{AllocError, Global};
 use std::marker::Model;
@@ -10,7 +11,7 @@ use std::marker::Model;
 /// Names, each with its number: 0, 1, 2 and so on, in the order in which they first came.
 #[derive(Drop)]
 pub struct Names {
-    texts: IndexSet<String>,
+    texts: IndexSet<String, NameKey>,
 }
 
 impl Model for Names {
@@ -25,12 +26,12 @@ impl Model for Names {
 }
 
 impl Names {
-    /// No names. Takes no memory.
-    pub fn new(alloc: Global) -> Names
+    /// Makes a table of no names, whose hashes begin with a key. Takes no memory.
+    pub fn new(alloc: Global, key: NameKey) -> Names
         ensures { result ≡ [] }
     {
         Names {
-            texts: IndexSet::new(alloc),
+            texts: IndexSet::with_hasher(alloc, key),
         }
     }
 

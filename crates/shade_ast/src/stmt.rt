@@ -3,7 +3,7 @@
 use crate::attr::Attr;
 use crate::expr::{Expr, Named};
 use shade_base::Place;
-use sqlite_items::Items;
+use sqlite_items::{Boxed, Items};
 
 /// A declaration by `var`.
 #[derive(Drop)]
@@ -125,7 +125,7 @@ pub struct Stmt {
 pub enum StmtKind {
     Empty,
     Block(Block),
-    Simple(Simple),
+    Simple(Boxed<Simple>),
     Return(Option<Expr>),
     Break,
     Continue,
@@ -137,7 +137,7 @@ pub enum StmtKind {
         condition: Expr,
         then: Block,
         arms: Items<Arm>,
-        otherwise: Option<Otherwise>,
+        otherwise: Option<Boxed<Otherwise>>,
     },
     Switch {
         attrs: Items<Attr>,
@@ -152,15 +152,15 @@ pub enum StmtKind {
         keyword: Place,
         inner: Items<Attr>,
         body: Items<Stmt>,
-        continuing: Option<Continuing>,
+        continuing: Option<Boxed<Continuing>>,
         end: Place,
     },
     For {
         attrs: Items<Attr>,
         keyword: Place,
-        initial: Option<Simple>,
+        initial: Option<Boxed<Simple>>,
         condition: Option<Expr>,
-        update: Option<Update>,
+        update: Option<Boxed<Update>>,
         body: Block,
     },
     While {

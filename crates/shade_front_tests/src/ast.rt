@@ -5,7 +5,7 @@ ghost use Rattle.shade_ast.specs.Names.{number_in, with_name};
 ghost use Rattle.shade_front_tests.specs.Samples.{first_line, expr_at, assert_lexemes, assert_tree};
 ghost use Rattle.shade_ast.specs.Spells.{Spells};
 
-use shade_ast::{Decl, DeclKind, Expr, ExprKind, Infix, Names, Tree};
+use shade_ast::{Decl, DeclKind, Expr, ExprKind, Infix, NameKey, Names, Tree};
 use shade_base::Place;
 use shade_lex::Suffix;
 use sqlite_items::{Boxed, Items};
@@ -33,7 +33,7 @@ fn text(names: &Names, number: u32) -> Option<&str> {
 
 #[test]
 fn names_as_a_table(rt: HostRuntime) {
-    let mut names = Names::new(rt.alloc());
+    let mut names = Names::new(rt.alloc(), NameKey::of("a name"));
     assert_eq!(rt; names.len(), 0);
     let cases = [
         ("a", 0, 1),
@@ -93,7 +93,7 @@ fn assertion(alloc: Global) -> Option<Tree>
     ensures tree { IfSome result (λ tree. tree ≡ assert_tree) }
     ensures spells { IfSome result (λ tree. Spells tree assert_lexemes) }
 {
-    let mut names = Names::new(alloc);
+    let mut names = Names::new(alloc, NameKey::of("const_assert a >= 2u;"));
     let name = number(&mut names, "a")?;
     let left = boxed(alloc, expr(0, 13, ExprKind::Name(name)))?;
     let literal = ExprKind::Number {

@@ -13,6 +13,8 @@ mod job;
 #[cfg(test)]
 mod lex;
 #[cfg(test)]
+mod names;
+#[cfg(test)]
 mod parse;
 #[cfg(test)]
 mod parse_expr;

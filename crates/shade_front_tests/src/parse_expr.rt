@@ -1,7 +1,7 @@
 //! Pieces and phrases of texts, at their edges.
 
 use crate::reading::place;
-use shade_ast::{Keyword, Names, Sign};
+use shade_ast::{Keyword, NameKey, Names, Sign};
 use shade_cursor::piece::{Piece, key_at, mark_at, number_at, word_at};
 use shade_cursor::pieces::pieces_of;
 use shade_lex::{Suffix, lex, templates};
@@ -85,7 +85,7 @@ fn read(alloc: Global, text: &str, goal: Goal) -> Result<(usize, u32), SyntaxFau
     if tokens.as_slice().len() > 1_048_576 {
         return Err(SyntaxFault::NoMemory);
     }
-    let mut names = Names::new(alloc);
+    let mut names = Names::new(alloc, NameKey::of(text));
     match expression(alloc, &tokens, &pairs, &mut names, goal, 0, 0) {
         Ok((_, end, next)) => Ok((end, next)),
         Err(fault) => Err(fault),
