@@ -225,10 +225,10 @@ listed_row a (part n which keys fallback body others) r h = elim h [ ]
 listed_row a (plain n act rest) r h = elim (among_split (plain_edges a n act) (edges_of (After n) rest) h) [ inl own ↦ plain_row_of a n act rest r own | inr after ↦ Graph.plain_rest (listed_row (After n) rest r after) ]
 listed_row a (jump n act rest) r h = jump_row_of a n act rest r h
 listed_row a (branch n cond one two rest) r h =
-    elim (among_split ((own ++ edges_of (Part n 0) one) ++ edges_of (Part n 1) two) (if (branch_behaviour one two).next then edges_of (After n) rest else []) h) [
-      | inl parts ↦ elim (among_split (own ++ edges_of (Part n 0) one) (edges_of (Part n 1) two) parts) [
-        | inl first ↦ elim (among_split own (edges_of (Part n 0) one) first) [ inl mine ↦ branch_row_of a n cond one two rest r mine | inr in_one ↦ Graph.branch_in_one (listed_row (Part n 0) one r in_one) ]
-        | inr in_two ↦ Graph.branch_in_two (listed_row (Part n 1) two r in_two)
+    elim (among_split ((edges_of (Part n 0) one ++ edges_of (Part n 1) two) ++ own) (if (branch_behaviour one two).next then edges_of (After n) rest else []) h) [
+      | inl parts ↦ elim (among_split (edges_of (Part n 0) one ++ edges_of (Part n 1) two) own parts) [
+        | inl inside ↦ elim (among_split (edges_of (Part n 0) one) (edges_of (Part n 1) two) inside) [ inl in_one ↦ Graph.branch_in_one (listed_row (Part n 0) one r in_one) | inr in_two ↦ Graph.branch_in_two (listed_row (Part n 1) two r in_two) ]
+        | inr mine ↦ branch_row_of a n cond one two rest r mine
       ]
       | inr after ↦ (let split = among_if (branch_behaviour one two).next (edges_of (After n) rest) after in Graph.branch_rest split.0 (listed_row (After n) rest r split.1))
     ]
@@ -293,10 +293,11 @@ abbrev own_edges : Node → ℕ → Operand → Code → Code → List GivenEdge
 own_edges a n cond one two = branch_edges a n cond (goes_on (branch_behaviour one two)) (end_of (Part n 0) one) (end_of (Part n 1) two)
 
 -- where the edges of a branch are listed
+in_branch : {r : GivenEdge} (a : Node) (n : ℕ) (cond : Operand) (one two rest : Code) → Among r ((edges_of (Part n 0) one ++ edges_of (Part n 1) two) ++ own_edges a n cond one two) → Among r (edges_of a (branch n cond one two rest))
+in_branch a n cond one two rest h = among_left ((edges_of (Part n 0) one ++ edges_of (Part n 1) two) ++ own_edges a n cond one two) (if (branch_behaviour one two).next then edges_of (After n) rest else []) h
+
 in_own : {r : GivenEdge} (a : Node) (n : ℕ) (cond : Operand) (one two rest : Code) → Among r (own_edges a n cond one two) → Among r (edges_of a (branch n cond one two rest))
-in_own a n cond one two rest h =
-    among_left ((own_edges a n cond one two ++ edges_of (Part n 0) one) ++ edges_of (Part n 1) two) (if (branch_behaviour one two).next then edges_of (After n) rest else [])
-    (among_left (own_edges a n cond one two ++ edges_of (Part n 0) one) (edges_of (Part n 1) two) (among_left (own_edges a n cond one two) (edges_of (Part n 0) one) h))
+in_own a n cond one two rest h = in_branch a n cond one two rest (among_right (edges_of (Part n 0) one ++ edges_of (Part n 1) two) (own_edges a n cond one two) h)
 
 in_parts : {r : GivenEdge} (a : Node) (n : ℕ) (cond : Operand) (one two rest : Code) → Among r ((given n (Before n) a ∷ [] ++ part_edges n 0 cond) ++ part_edges n 1 cond) → Among r (edges_of a (branch n cond one two rest))
 in_parts a n cond one two rest h =
@@ -337,11 +338,11 @@ row_listed a (branch n cond one two rest) s u v (Graph.branch_next e) = in_after
 row_listed a (branch n cond one two rest) s u v (Graph.branch_end_one e) = in_after a n cond one two rest false e here
 row_listed a (branch n cond one two rest) s u v (Graph.branch_end_two e) = in_after a n cond one two rest false e (later here)
 row_listed a (branch n cond one two rest) s u v (Graph.branch_in_one h) =
-    among_left ((own_edges a n cond one two ++ edges_of (Part n 0) one) ++ edges_of (Part n 1) two) (if (branch_behaviour one two).next then edges_of (After n) rest else [])
-    (among_left (own_edges a n cond one two ++ edges_of (Part n 0) one) (edges_of (Part n 1) two) (among_right (own_edges a n cond one two) (edges_of (Part n 0) one) (row_listed (Part n 0) one s u v h)))
+    in_branch a n cond one two rest
+    (among_left (edges_of (Part n 0) one ++ edges_of (Part n 1) two) (own_edges a n cond one two) (among_left (edges_of (Part n 0) one) (edges_of (Part n 1) two) (row_listed (Part n 0) one s u v h)))
 row_listed a (branch n cond one two rest) s u v (Graph.branch_in_two h) =
-    among_left ((own_edges a n cond one two ++ edges_of (Part n 0) one) ++ edges_of (Part n 1) two) (if (branch_behaviour one two).next then edges_of (After n) rest else [])
-    (among_right (own_edges a n cond one two ++ edges_of (Part n 0) one) (edges_of (Part n 1) two) (row_listed (Part n 1) two s u v h))
+    in_branch a n cond one two rest
+    (among_left (edges_of (Part n 0) one ++ edges_of (Part n 1) two) (own_edges a n cond one two) (among_right (edges_of (Part n 0) one) (edges_of (Part n 1) two) (row_listed (Part n 1) two s u v h)))
 row_listed a (branch n cond one two rest) s u v (Graph.branch_rest next h) =
-    among_right ((own_edges a n cond one two ++ edges_of (Part n 0) one) ++ edges_of (Part n 1) two) (if (branch_behaviour one two).next then edges_of (After n) rest else [])
+    among_right ((edges_of (Part n 0) one ++ edges_of (Part n 1) two) ++ own_edges a n cond one two) (if (branch_behaviour one two).next then edges_of (After n) rest else [])
     (subst (λ (b : Bool). Among (given s u v) (if b then edges_of (After n) rest else [])) (sym next) (row_listed (After n) rest s u v h))

@@ -10,7 +10,7 @@ use Rattle.shade_graph.specs.Gathered.{operand_edges, operands_edges}
 use Rattle.shade_graph.specs.Numbered.{Pair, ends, input_pairs, param_pairs}
 
 -- of what one item gives, and what those behind it give
-turn : {A : Type 0} (made more one rest left all : List A) → more ≡ made ++ one → left ≡ one ++ rest → made ++ left ≡ all → more ++ rest ≡ all
+pub turn : {A : Type 0} (made more one rest left all : List A) → more ≡ made ++ one → left ≡ one ++ rest → made ++ left ≡ all → more ++ rest ≡ all
 turn made more one rest left all pushed here h = ap (λ x. x ++ rest) pushed ∙ append_assoc made one rest ∙ ap (λ x. made ++ x) (sym here) ∙ h
 
 pub operands_turn : (n : ℕ) (u : Node) (xs : List Operand) (i : ℕ) (x : Operand) (made more all : List GivenEdge) → i < length xs → x ≡ get_or xs i x

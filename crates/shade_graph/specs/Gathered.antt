@@ -76,7 +76,7 @@ abbrev pub edges_of : Node → Code → List GivenEdge
 edges_of a (plain n act rest) = plain_edges a n act ++ edges_of (After n) rest
 edges_of a (jump n act rest) = jump_edges a n act
 edges_of a (branch n cond one two rest) =
-    ((branch_edges a n cond (goes_on (branch_behaviour one two)) (end_of (Part n 0) one) (end_of (Part n 1) two) ++ edges_of (Part n 0) one) ++ edges_of (Part n 1) two)
+    ((edges_of (Part n 0) one ++ edges_of (Part n 1) two) ++ branch_edges a n cond (goes_on (branch_behaviour one two)) (end_of (Part n 0) one) (end_of (Part n 1) two))
     ++ (if (branch_behaviour one two).next then edges_of (After n) rest else [])
 edges_of a _ = []
 
@@ -110,19 +110,15 @@ layer_edges a n (act.Barrier space severity) = plain_edges a n (Barrier space se
 layer_edges a n (act.UniformLoad view severity) = plain_edges a n (UniformLoad view severity)
 layer_edges a n (act.Length view) = plain_edges a n (Length view)
 layer_edges a n (act.If cond one two) =
-    (branch_edges a n cond (goes_on (branch_behaviour (code_of one) (code_of two))) (end_of (Part n 0) (code_of one)) (end_of (Part n 1) (code_of two)) ++ edges_of (Part n 0) (code_of one)) ++ edges_of (Part n 1) (code_of two)
+    (edges_of (Part n 0) (code_of one) ++ edges_of (Part n 1) (code_of two)) ++ branch_edges a n cond (goes_on (branch_behaviour (code_of one) (code_of two))) (end_of (Part n 0) (code_of one)) (end_of (Part n 1) (code_of two))
 layer_edges a n act.Break = jump_edges a n Break
 layer_edges a n act.Continue = jump_edges a n Continue
 layer_edges a n (act.Return value) = jump_edges a n (Return value)
 layer_edges a n _ = []
 
--- whether what follows a statement with this act is analysed and read
-abbrev pub goes_past : Layer → Bool
-goes_past (act.If cond one two) = (branch_behaviour (code_of one) (code_of two)).next
-goes_past (act.Call function args) = false
-goes_past (act.Switch selector parts) = false
-goes_past (act.Loop body continuing leave) = false
-goes_past act.Break = false
-goes_past act.Continue = false
-goes_past (act.Return value) = false
-goes_past _ = true
+-- whether a statement with this act is read
+abbrev pub is_read : Layer → Bool
+is_read (act.Call function args) = false
+is_read (act.Switch selector parts) = false
+is_read (act.Loop body continuing leave) = false
+is_read _ = true

@@ -1,14 +1,15 @@
 // One walk over the statements of a function, which gathers its nodes and edges.
-ghost use Rattle.std.specs.Prelude.{◌≡◌, ◌++◌, ◌∷◌, [], IfOk};
-ghost use Rattle.shade_core.specs.Code.{code_of};
+ghost use Rattle.std.specs.Prelude.{◌≡◌, ◌++◌, ◌∷◌, [], ◌&&◌, if◌then◌else◌, IfOk};
+ghost use Rattle.shade_core.specs.Behaviour.{joined, goes_on, behaviour};
+ghost use Rattle.shade_core.specs.Code.{done, act_code, code_of};
 ghost use Rattle.shade_core.specs.declared.statement.Act.{out-Act};
 ghost use Rattle.shade_graph.specs.declared.node.Node.TheVariants.{Required, Returned, Before, Value};
 ghost use Rattle.shade_graph.specs.Graph.{end_of};
-ghost use Rattle.shade_graph.specs.Gathered.{given, operand_edges, operands_edges, value_edges, control_nodes, control_edges, part_edges, after_edges, branch_nodes, branch_edges, nodes_of, edges_of, layer_nodes, layer_edges, goes_past};
+ghost use Rattle.shade_graph.specs.Gathered.{given, operand_edges, operands_edges, value_edges, control_nodes, control_edges, part_edges, after_edges, branch_nodes, branch_edges, nodes_of, edges_of, layer_nodes, layer_edges, is_read};
 
 use crate::Node;
 use shade_base::Severity;
-use shade_core::{Act, CoreStatement, Operand, act_behaviour, list_behaviour};
+use shade_core::{Act, Behaviour, CoreStatement, Operand, act_behaviour};
 use sqlite_items::Items;
 use std::alloc::AllocError;
 
@@ -25,6 +26,13 @@ pub struct GivenEdge {
 pub struct Gathered {
     pub nodes: Vec<Node>,
     pub edges: Vec<GivenEdge>,
+}
+
+/// How control leaves a list of statements: the ways behind it, and the node of control at the end of its analysed statements.
+#[derive(Clone, Copy)]
+pub struct ListEnd {
+    pub ways: Behaviour,
+    pub node: Node,
 }
 
 /// Adds an edge that a statement gives.
@@ -189,106 +197,149 @@ fn add_return(
     add_value(number, Node::Returned, value, &mut out.edges)
 }
 
-/// Adds what a branch has, but for what stands in its parts, which end at these nodes.
-fn add_branch(
+/// Adds the nodes of a branch, but for those in its parts.
+fn add_branch_nodes(number: u32, nodes: &mut Vec<Node>) -> Result<(), AllocError>
+    ensures { IfOk result (λ _. nodes.new.items ≡ nodes.old.items ++ branch_nodes number) }
+{
+    nodes.push(Node::Before(number))?;
+    nodes.push(Node::After(number))?;
+    nodes.push(Node::Part(number, 0))?;
+    nodes.push(Node::Part(number, 1))?;
+    Ok(())
+}
+
+/// Adds the edges of a branch whose parts end like this, but for those that their statements give.
+fn add_branch_edges(
     number: u32,
     under: Node,
     cond: &Operand,
-    goes_on: bool,
-    yes_end: Node,
-    no_end: Node,
-    out: &mut Gathered,
+    yes: ListEnd,
+    no: ListEnd,
+    edges: &mut Vec<GivenEdge>,
 ) -> Result<(), AllocError>
-    ensures nodes { IfOk result (λ _. out.new.nodes.items ≡ out.old.nodes.items ++ branch_nodes number) }
-    ensures edges { IfOk result (λ _. out.new.edges.items ≡ out.old.edges.items ++ branch_edges under number cond.now goes_on yes_end no_end) }
+    ensures { IfOk result (λ _. edges.new.items ≡ edges.old.items ++ branch_edges under number cond.now (goes_on (joined yes.ways no.ways)) yes.node no.node) }
 {
-    out.nodes.push(Node::Before(number))?;
-    out.nodes.push(Node::After(number))?;
-    out.nodes.push(Node::Part(number, 0))?;
-    out.nodes.push(Node::Part(number, 1))?;
-    add_edge(number, Node::Before(number), under, &mut out.edges)?;
-    add_part(number, 0, cond, &mut out.edges)?;
-    add_part(number, 1, cond, &mut out.edges)?;
-    add_after(number, goes_on, yes_end, no_end, &mut out.edges)
+    add_edge(number, Node::Before(number), under, edges)?;
+    add_part(number, 0, cond, edges)?;
+    add_part(number, 1, cond, edges)?;
+    let goes_on = yes.ways.joined(no.ways).goes_on();
+    add_after(number, goes_on, yes.node, no.node, edges)
 }
 
-/// Control at the end of the analysed statements of a list that begins under a node.
-fn end_of_list(statements: &Items<CoreStatement>, under: Node) -> Node
-    ensures { result ≡ end_of under (code_of statements.now) }
+/// Whether the nodes and edges of a statement with an act are gathered. Of a call, a switch or a loop nothing is, for now.
+fn is_gathered(act: &Act) -> bool
+    ensures { result ≡ is_read (out-Act act.now) }
 {
-    let mut at = under;
-    'statements: for statement in statements.as_slice() {
-        at = Node::After(statement.number);
-        if !act_behaviour(&statement.act).next {
-            return at;
-        }
-    }
-    at
+    !matches!(
+        act,
+        Act::Call { .. } | Act::Switch { .. } | Act::Loop { .. }
+    )
 }
 
-/// Gathers what one statement has, the statements of its parts among it. Tells whether its list is read past it:
-/// not past the last analysed statement, and for now not past a call, a switch or a loop, of which nothing is read.
+/// Whether a list that is read up to a statement with an act is read on behind it.
+fn reads_on(reads: bool, act: &Act) -> bool
+    ensures { result ≡ (reads && is_read (out-Act act.now)) }
+{
+    reads && is_gathered(act)
+}
+
+/// Gathers what one statement has, the statements of its parts among it, and tells how control may go on behind it.
 #[cycle(gather)]
 fn gather_statement(
     statement: &CoreStatement,
     under: Node,
     out: &mut Gathered,
-) -> Result<bool, AllocError>
+) -> Result<Behaviour, AllocError>
     ensures nodes { IfOk result (λ _. out.new.nodes.items ≡ out.old.nodes.items ++ layer_nodes statement.now.number (out-Act statement.now.act)) }
     ensures edges { IfOk result (λ _. out.new.edges.items ≡ out.old.edges.items ++ layer_edges under statement.now.number (out-Act statement.now.act)) }
-    ensures past { IfOk result (λ past. past ≡ goes_past (out-Act statement.now.act)) }
+    ensures ways { IfOk result (λ ways. ways ≡ behaviour (act_code statement.now.act 0 done)) }
 {
     match &statement.act {
         Act::If { cond, yes, no } => {
             let number = statement.number;
-            let ways = list_behaviour(yes).joined(list_behaviour(no));
-            let yes_end = end_of_list(yes, Node::Part(number, 0));
-            let no_end = end_of_list(no, Node::Part(number, 1));
-            add_branch(number, under, cond, ways.goes_on(), yes_end, no_end, out)?;
-            gather_list(yes, Node::Part(number, 0), out)?;
-            gather_list(no, Node::Part(number, 1), out)?;
-            Ok(ways.next)
+            add_branch_nodes(number, &mut out.nodes)?;
+            let yes = gather_list(yes, Node::Part(number, 0), out)?;
+            let no = gather_list(no, Node::Part(number, 1), out)?;
+            add_branch_edges(number, under, cond, yes, no, &mut out.edges)?;
+            Ok(yes.ways.joined(no.ways))
         }
-        Act::Call { .. } | Act::Switch { .. } | Act::Loop { .. } => Ok(false),
-        Act::Break | Act::Continue => {
+        Act::Call { .. } | Act::Switch { .. } | Act::Loop { .. } => {
+            Ok(act_behaviour(&statement.act))
+        }
+        Act::Break => {
             add_control(statement.number, under, out)?;
-            Ok(false)
+            Ok(Behaviour::BREAK)
+        }
+        Act::Continue => {
+            add_control(statement.number, under, out)?;
+            Ok(Behaviour::CONTINUE)
         }
         Act::Return { value } => {
             add_return(statement.number, under, value, out)?;
-            Ok(false)
+            Ok(Behaviour::RETURN)
         }
         Act::Set { args, .. } => {
             add_set(statement.number, under, args, out)?;
-            Ok(true)
+            Ok(Behaviour::NEXT)
         }
         Act::Barrier { severity, .. } => {
             add_barrier(statement.number, under, *severity, out)?;
-            Ok(true)
+            Ok(Behaviour::NEXT)
         }
         _ => {
             add_control(statement.number, under, out)?;
-            Ok(true)
+            Ok(Behaviour::NEXT)
         }
     }
 }
 
-/// Gathers what the analysed statements of a list have that begins under a node.
+/// Gathers what one statement of a list has, where that is read, and tells how control may go on behind it.
+#[cycle(gather)]
+fn gather_next(
+    statement: &CoreStatement,
+    under: Node,
+    is_read: bool,
+    out: &mut Gathered,
+) -> Result<Behaviour, AllocError>
+    ensures nodes { IfOk result (λ _. out.new.nodes.items ≡ out.old.nodes.items ++ (if is_read then layer_nodes statement.now.number (out-Act statement.now.act) else [])) }
+    ensures edges { IfOk result (λ _. out.new.edges.items ≡ out.old.edges.items ++ (if is_read then layer_edges under statement.now.number (out-Act statement.now.act) else [])) }
+    ensures ways { IfOk result (λ ways. ways ≡ behaviour (act_code statement.now.act 0 done)) }
+{
+    if is_read {
+        gather_statement(statement, under, out)
+    } else {
+        Ok(act_behaviour(&statement.act))
+    }
+}
+
+/// Gathers what the analysed statements of a list have that begins under a node, up to the first of which nothing is gathered.
+/// Tells how control leaves the whole list: each statement is asked for it once.
 #[cycle(gather)]
 pub fn gather_list(
     statements: &Items<CoreStatement>,
     under: Node,
     out: &mut Gathered,
-) -> Result<(), AllocError>
+) -> Result<ListEnd, AllocError>
     ensures nodes { IfOk result (λ _. out.new.nodes.items ≡ out.old.nodes.items ++ nodes_of (code_of statements.now)) }
     ensures edges { IfOk result (λ _. out.new.edges.items ≡ out.old.edges.items ++ edges_of under (code_of statements.now)) }
+    ensures ways { IfOk result (λ end. end.ways ≡ behaviour (code_of statements.now)) }
+    ensures node { IfOk result (λ end. end.node ≡ end_of under (code_of statements.now)) }
 {
-    let mut at = under;
+    let mut end = ListEnd {
+        ways: Behaviour::NEXT,
+        node: under,
+    };
+    let mut reads = true;
     'statements: for statement in statements.as_slice() {
-        if !gather_statement(statement, at, out)? {
-            return Ok(());
+        let ways = gather_next(statement, end.node, reads, out)?;
+        end = ListEnd {
+            ways: end.ways.then(ways),
+            node: Node::After(statement.number),
+        };
+        if !ways.next {
+            return Ok(end);
         }
-        at = Node::After(statement.number);
+        reads = reads_on(reads, &statement.act);
     }
-    Ok(())
+    Ok(end)
 }
