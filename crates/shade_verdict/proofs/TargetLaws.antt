@@ -6,7 +6,7 @@ use Rattle.std.proofs.lemmas.List.Kept.{AllPairs-from_increasing}
 use Rattle.std.proofs.lemmas.Option.{slice_get-get_or, slice_get_within, get_or_from_slice_get}
 use Rattle.shade_base.specs.declared.severity.Severity.{Severity}
 use Rattle.shade_core.specs.declared.module.CoreFunction.{CoreFunction}
-use Rattle.shade_reach.specs.Digraph.{Digraph, HasEdge, JoinsNodes, IsTargets, IsLeastEdgePath}
+use Rattle.shade_reach.specs.Digraph.{Digraph, Towards, HasEdge, JoinsNodes, IsTargets, IsLeastEdgePath}
 use Rattle.shade_reach.specs.Paths.{NoPath}
 use Rattle.shade_graph.specs.declared.node.Node.{Node}
 use Rattle.shade_graph.specs.declared.node.Node.TheVariants.{Required, NonUniform, Before}
@@ -17,14 +17,10 @@ use Rattle.shade_graph.proofs.Members.{among_left, among_right, among_split, amo
 use Rattle.shade_verdict.specs.declared.violation.PathStep.{PathStep}
 use Rattle.shade_verdict.specs.declared.violation.Violation.{Violation}
 use Rattle.shade_verdict.specs.Violations.{IsViolation, plain_step}
-use Rattle.shade_verdict.specs.Found.{node_at, Tells, Adds, AreFound, NoNode, IsEarly}
+use Rattle.shade_verdict.specs.Found.{node_at, digraph_of, LeadsToNonUniform, Tells, Adds, AreFound, NoNode, IsEarly}
 use Rattle.shade_verdict.proofs.NumberPaths.{edge_nodes, path_below, least_path_up, no_path_up}
 use Rattle.shade_verdict.proofs.Sites.{asked_before, site_is}
 use Rattle.shade_verdict.proofs.FoundLaws.{Also, add_one, same_nodes, next_severity}
-
--- the graph by number as its callers see it
-abbrev pub digraph_of : FunctionGraph → Digraph
-digraph_of g = record { nodes = length g.nodes; edges = g.edges }
 
 same_default : {A : Type 0} (xs : List A) (i : ℕ) (d e : A) → i < length xs → get_or xs i d ≡ get_or xs i e
 same_default xs i d e lt = get_or_from_slice_get xs i (get_or xs i e) d (slice_get-get_or xs i e lt)
@@ -41,6 +37,18 @@ not_asked f severity g nodes t d e lt none asked =
 
 pub number_fits : (g : FunctionGraph) (d : Digraph) (n : ℕ) (v : Node) → d ≡ digraph_of g → slice_get g.nodes n ≡ Some v → n < d.nodes
 number_fits g d n v e at = subst (λ (z : Digraph). n < z.nodes) (sym e) (slice_get_within g.nodes n v at)
+
+-- a node has a number from which paths may be asked
+pub from_fits : (g : FunctionGraph) (p : Towards) (t : ℕ) → LeadsToNonUniform g p → t < length g.nodes → t < p.graph.nodes
+from_fits g p t leads lt = subst (λ (z : Digraph). t < z.nodes) (sym leads.same) lt
+
+-- the paths that are asked to the number of the non-uniform node
+pub leads_there : (g : FunctionGraph) (d : Digraph) (p : Towards) (n : ℕ) → d ≡ digraph_of g → JoinsNodes (length g.nodes) g.edges → slice_get g.nodes n ≡ Some NonUniform → p.graph ≡ d → p.target ≡ n → LeadsToNonUniform g p
+leads_there g d p n is joins at same to = record {
+  same = same ∙ is;
+  within = joins;
+  target = ap (λ (k : ℕ). slice_get g.nodes k) to ∙ at;
+}
 
 pub steps_fit : (g : FunctionGraph) (nodes : List Node) (d : Digraph) (t n : ℕ) (path xs : List ℕ) → nodes ≡ g.nodes → d ≡ digraph_of g → JoinsNodes (length g.nodes) g.edges → t < length g.nodes → IsLeastEdgePath d.edges t n path → xs ≡ path
     → All (λ (k : ℕ). k < length nodes) xs

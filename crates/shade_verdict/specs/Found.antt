@@ -1,11 +1,13 @@
 -- The violations found so far, on the way through the functions, their severities and the nodes that are asked for.
-use Rattle.std.specs.Prelude.{◌≡◌, ℕ, ◌<◌, ◌⊎◌, List, [], ◌∷◌, ◌++◌, map, take, Some, slice_get, slice_index_or}
+use Rattle.std.specs.Prelude.{◌≡◌, ℕ, ◌<◌, ◌⊎◌, List, [], ◌∷◌, ◌++◌, map, take, length, Some, slice_get, slice_index_or}
 use Rattle.shade_base.specs.declared.severity.Severity.{Severity}
 use Rattle.shade_core.specs.declared.module.CoreFunction.{CoreFunction}
 use Rattle.shade_graph.specs.declared.node.Node.{Node}
 use Rattle.shade_graph.specs.declared.node.Node.TheVariants.{Required, NonUniform}
 use Rattle.shade_graph.specs.Graph.{Edge, Among}
 use Rattle.shade_graph.specs.Order.{NodeLess, severity_rank}
+use Rattle.shade_graph.specs.Numbered.{FunctionGraph}
+use Rattle.shade_reach.specs.Digraph.{Digraph, Towards, JoinsNodes}
 use Rattle.shade_reach.specs.Paths.{NoPath, IsLeastPath}
 use Rattle.shade_verdict.specs.declared.violation.Violation.{Violation}
 use Rattle.shade_verdict.specs.Violations.{IsViolation, IsSite, Shows, plain_step, second_node, Ascends}
@@ -13,6 +15,16 @@ use Rattle.shade_verdict.specs.Violations.{IsViolation, IsSite, Shows, plain_ste
 -- the node with a number
 abbrev pub node_at : List Node → ℕ → Node
 node_at nodes number = slice_index_or nodes number NonUniform
+
+-- the graph by number as its callers see it
+abbrev pub digraph_of : FunctionGraph → Digraph
+digraph_of graph = record { nodes = length graph.nodes; edges = graph.edges }
+
+-- paths are those of a graph to its non-uniform node
+pub record LeadsToNonUniform (graph : FunctionGraph) (paths : Towards) : Type 0 where
+  pub same : paths.graph ≡ digraph_of graph
+  pub within : JoinsNodes (length graph.nodes) graph.edges
+  pub target : slice_get graph.nodes paths.target ≡ Some NonUniform
 
 -- what is told of one violation of a function
 pub record Tells (f : CoreFunction) (number : ℕ) (severity : Severity) (node : Node) (v : Violation) : Type 0 where

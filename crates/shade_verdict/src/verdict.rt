@@ -6,12 +6,13 @@ ghost use Rattle.shade_graph.specs.Graph.{Edge};
 ghost use Rattle.shade_graph.specs.Order.{severity_rank};
 ghost use Rattle.shade_graph.specs.Numbered.{IsGraphOf};
 ghost use Rattle.shade_verdict.specs.Violations.{plain_step, AreViolations};
-ghost use Rattle.shade_verdict.specs.Found.{node_at, Adds, AreFound, NoNode};
+ghost use Rattle.shade_verdict.specs.Found.{node_at, LeadsToNonUniform, Adds, AreFound, NoNode};
 
 use crate::violation::{NodePath, PathStep, Violation};
 use shade_base::Severity;
 use shade_core::{CoreFunction, CoreModule};
 use shade_graph::{FnGraph, Node, graph_of};
+use shade_reach::PathsTo;
 use sqlite_items::Items;
 use std::alloc::{AllocError, Global};
 
@@ -40,31 +41,37 @@ fn path_steps(
     Ok(steps)
 }
 
+/// What the violations of a function are found by: its number, its graph, and the least paths to its non-uniform node.
+#[derive(Drop)]
+struct Finder<'graph> {
+    function: u32,
+    graph: &'graph FnGraph,
+    paths: PathsTo<'graph>,
+}
+
 /// Adds the violation at a node that a severity asks for, where a path leads from the node to the non-uniform node.
 fn add_target(
     alloc: Global,
-    function: u32,
-    graph: &FnGraph,
+    finder: &Finder<'_>,
     severity: Severity,
     target: u32,
-    non_uniform: u32,
     out: &mut Vec<Violation>,
 ) -> Result<(), AllocError>
-    requires target { target < length graph.now.nodes }
-    requires non_uniform { slice_get graph.now.nodes non_uniform ≡ Some NonUniform }
-    ensures { IfOk result (λ _. (f : CoreFunction) → IsGraphOf f graph.now → Edge f (Required severity) (node_at graph.now.nodes target) → Adds f function severity (node_at graph.now.nodes target) out.old.items out.new.items) }
+    requires paths { LeadsToNonUniform finder.now.graph.now finder.now.paths }
+    requires target { target < length finder.now.graph.now.nodes }
+    ensures { IfOk result (λ _. (f : CoreFunction) → IsGraphOf f finder.now.graph.now → Edge f (Required severity) (node_at finder.now.graph.now.nodes target) → Adds f finder.now.function severity (node_at finder.now.graph.now.nodes target) out.old.items out.new.items) }
 {
     // What is asked for is control before a collective statement.
-    let Node::Before(site) = graph.nodes()[target as usize] else {
+    let Node::Before(site) = finder.graph.nodes()[target as usize] else {
         return Ok(());
     };
-    let Some(path) = graph.graph().least_path(alloc, target, non_uniform)? else {
+    let Some(path) = finder.paths.least_from(alloc, target)? else {
         return Ok(());
     };
     let required = Node::Required(severity);
-    let path = path_steps(alloc, required, graph.nodes(), path.as_slice())?;
+    let path = path_steps(alloc, required, finder.graph.nodes(), path.as_slice())?;
     out.push(Violation {
-        function,
+        function: finder.function,
         severity,
         site,
         path,
@@ -75,21 +82,18 @@ fn add_target(
 /// Adds the violations of one severity in a function, by the nodes that are asked for.
 fn add_severity(
     alloc: Global,
-    function: u32,
-    graph: &FnGraph,
+    finder: &Finder<'_>,
     severity: Severity,
     out: &mut Vec<Violation>,
 ) -> Result<(), AllocError>
-    ensures { IfOk result (λ _. (functions : List CoreFunction) (f : CoreFunction) → slice_get functions function ≡ Some f → IsGraphOf f graph.now → AreFound functions function (severity_rank severity) NoNode out.old.items → AreFound functions function (severity_rank severity + 1) NoNode out.new.items) }
+    requires { LeadsToNonUniform finder.now.graph.now finder.now.paths }
+    ensures { IfOk result (λ _. (functions : List CoreFunction) (f : CoreFunction) → slice_get functions finder.now.function ≡ Some f → IsGraphOf f finder.now.graph.now → AreFound functions finder.now.function (severity_rank severity) NoNode out.old.items → AreFound functions finder.now.function (severity_rank severity + 1) NoNode out.new.items) }
 {
-    let Some(required) = graph.number_of(Node::Required(severity)) else {
+    let Some(required) = finder.graph.number_of(Node::Required(severity)) else {
         return Ok(());
     };
-    let Some(non_uniform) = graph.number_of(Node::NonUniform) else {
-        return Ok(());
-    };
-    'targets: for target in graph.graph().targets(required) {
-        add_target(alloc, function, graph, severity, *target, non_uniform, out)?;
+    'targets: for target in finder.graph.graph().targets(required) {
+        add_target(alloc, finder, severity, *target, out)?;
     }
     Ok(())
 }
@@ -97,23 +101,30 @@ fn add_severity(
 /// Adds the violations of a function, by severity.
 fn add_function(
     alloc: Global,
-    number: u32,
-    function: &CoreFunction,
+    function: u32,
+    graph: &FnGraph,
     out: &mut Vec<Violation>,
 ) -> Result<(), AllocError>
-    ensures { IfOk result (λ _. (functions : List CoreFunction) → slice_get functions number ≡ Some function.now → AreFound functions number 0 NoNode out.old.items → AreFound functions (number + 1) 0 NoNode out.new.items) }
+    ensures { IfOk result (λ _. (functions : List CoreFunction) (f : CoreFunction) → slice_get functions function ≡ Some f → IsGraphOf f graph.now → AreFound functions function 0 NoNode out.old.items → AreFound functions (function + 1) 0 NoNode out.new.items) }
 {
-    let graph = graph_of(alloc, function)?;
-    add_severity(alloc, number, &graph, Severity::Error, out)?;
-    add_severity(alloc, number, &graph, Severity::Warning, out)?;
-    add_severity(alloc, number, &graph, Severity::Info, out)?;
+    let Some(non_uniform) = graph.number_of(Node::NonUniform) else {
+        return Ok(());
+    };
+    let finder = Finder {
+        function,
+        graph,
+        paths: graph.graph().paths_to(alloc, non_uniform)?,
+    };
+    add_severity(alloc, &finder, Severity::Error, out)?;
+    add_severity(alloc, &finder, Severity::Warning, out)?;
+    add_severity(alloc, &finder, Severity::Info, out)?;
     Ok(())
 }
 
 /// The violations of a module, by function, then severity, then the node that is asked for.
 ///
-/// Each has the least path to the non-uniform node. Takes time and memory in the order of the graph of each function,
-/// and of one search through it for each violation. Functions have numbers of 32 bits, as the nodes of a graph do.
+/// Each has the least path to the non-uniform node. Takes time and memory in the order of the graph of each function, of one
+/// search through it, and of the paths that are told. Functions have numbers of 32 bits, as the nodes of a graph do.
 pub fn violations_of(alloc: Global, checked: &CoreModule) -> Result<Vec<Violation>, AllocError>
     ensures { IfOk result (λ violations. AreViolations checked.now.functions violations.items) }
 {
@@ -124,7 +135,8 @@ pub fn violations_of(alloc: Global, checked: &CoreModule) -> Result<Vec<Violatio
     let mut out = Vec::new(alloc);
     let mut number = 0;
     'functions: for function in functions {
-        add_function(alloc, number, function, &mut out)?;
+        let graph = graph_of(alloc, function)?;
+        add_function(alloc, number, &graph, &mut out)?;
         number += 1;
     }
     Ok(out)

@@ -7,5 +7,6 @@ use Rattle.shade_verdict.proofs.verdict.add_severity.Given as goal
 
 abbrev pub invariant-targets : goal.invariant-targets
 invariant-targets l =
-    (functions : List CoreFunction) (f : CoreFunction) → slice_get functions l.function ≡ Some f → IsGraphOf f l.graph → AreFound functions l.function (severity_rank l.severity) NoNode l.initial.out.items
-    → AreFound functions l.function (severity_rank l.severity) (IsEarly l.graph.nodes l.target-items l.target-index) l.out.items
+    (functions : List CoreFunction) (f : CoreFunction) → slice_get functions l.finder.function ≡ Some f → IsGraphOf f l.finder.graph.now
+    → AreFound functions l.finder.function (severity_rank l.severity) NoNode l.initial.out.items
+    → AreFound functions l.finder.function (severity_rank l.severity) (IsEarly l.finder.graph.now.nodes l.target-items l.target-index) l.out.items
