@@ -1,53 +1,71 @@
 -- Words that fit a form are answered.
-use Rattle.std.proofs.Common.{◌≡◌, ◌<◌, ◌⊎◌, inl, inr, ◌∙◌, sym, ap, ℕ, List, [], ◌∷◌, Option, None, Some, arith}
+use Rattle.std.proofs.Common.{◌≡◌, ◌≢◌, ◌<◌, ◌∙◌, refl, sym, ap, subst, ℕ, List, [], ◌∷◌, Option, None, Some, arith}
+use Rattle.shade_base.specs.declared.severity.Severity.TheVariants.{Error}
 use Rattle.shade_base.specs.Counter.{Rose}
 use Rattle.shade_base.specs.Shelf.{faults_of}
-use Rattle.shade_top.specs.Answer.{NoJob}
-use Rattle.shade_top.specs.Causes.{HasCause, JobRead, Refuses, RefusesAloud, ShaderRead, Unread}
+use Rattle.shade_core.specs.declared.module.CoreModule.{CoreModule}
+use Rattle.shade_report.specs.CheckReport.{count_of}
+use Rattle.shade_top.specs.Answer.{Answer, IsAnswer, no_form, answered, IsAnswerTo, check_unread, checked, run_unread, stopped, job_unread, run_, IsChecked, refused, IsRan, no_job, job, NoJob, Runs}
+use Rattle.shade_top.specs.Answer.{judged as judged_}
+use Rattle.shade_top.specs.Causes.{HasCause, JobRead, Refuses, ShaderRead, Unread}
 use Rattle.shade_top.specs.Changes.{ShelfChange, SinkChange}
-use Rattle.shade_top.specs.Laws.{Completeness}
-use Rattle.shade_top.specs.Request.{Request, request_of}
-use Rattle.shade_top.specs.Serves.{Ends, written, no_memory, whole, cut}
-use Rattle.shade_top.proofs.CauseLaws.{Known, zero_, one_, two_, three_, four_, five_, eight_, nine_, words_known}
+use Rattle.shade_top.specs.Laws.{IsDue, judged, rejected, ran, Completes, given, no_memory, Completeness}
+use Rattle.shade_top.specs.Request.{Request, Check, Run, request_of}
+use Rattle.shade_top.specs.Serves.{Ends, written, whole, cut}
+use Rattle.shade_top.specs.Serves.{no_memory as no_memory_}
+use Rattle.shade_top.proofs.CauseLaws.{none_status}
 
--- a refusal that was told is one
-refuses : (sink : SinkChange) (reads : List (Option (List ℕ))) → ShaderRead (RefusesAloud sink) reads → ShaderRead Refuses reads
-refuses sink [] h = h
-refuses sink (None ∷ reads) h = h
-refuses sink (Some bytes ∷ reads) h = (h.why, h.is)
+-- a check of a text that is not refused
+check_due : {file bytes : List ℕ} {answer : Answer} → (Refuses bytes → ⊥) → IsChecked bytes answer → IsDue (Check file) (Some bytes ∷ []) answer
+check_due not_refused (refused why h) = absurd (not_refused (why, h))
+check_due not_refused (judged_ is are) = judged is are
 
-abbrev Decides : ℕ → Type 0
-Decides status = (status ≡ 0) ⊎ ((status ≡ 1) ⊎ ((status ≡ 7) ⊎ ((status ≡ 8) ⊎ (status ≡ 9))))
+-- a check that stops a run of such a text
+stop_due : {file job bytes : List ℕ} {answer : Answer} → (Refuses bytes → ⊥) → IsChecked bytes answer → answer.status ≢ 0 → IsDue (Run file job) (Some bytes ∷ []) answer
+stop_due not_refused (refused why h) other = absurd (not_refused (why, h))
+stop_due not_refused (judged_ {violations = violations} is are) other = rejected is are (λ none. other (none_status (count_of Error violations) none))
+
+-- a run by a job that is one
+run_due : {file job bytes lines : List ℕ} {shader : CoreModule} {answer : Answer} → Runs bytes shader → (NoJob shader lines → ⊥) → IsRan shader lines answer → IsDue (Run file job) (Some bytes ∷ Some lines ∷ []) answer
+run_due runs a_job (no_job none) = absurd (a_job none)
+run_due runs a_job (job states) = ran runs states
+
+due : {request : Request} {reads : List (Option (List ℕ))} {answer : Answer} → (ShaderRead Refuses reads → ⊥) → (JobRead NoJob reads → ⊥) → answer.status ≢ 5 → IsAnswerTo request reads answer → IsDue request reads answer
+due not_refused a_job not_five check_unread = absurd (not_five refl)
+due not_refused a_job not_five (checked c) = check_due not_refused c
+due not_refused a_job not_five run_unread = absurd (not_five refl)
+due not_refused a_job not_five (stopped c other) = stop_due not_refused c other
+due not_refused a_job not_five (job_unread runs) = absurd (not_five refl)
+due not_refused a_job not_five (run_ {shader = shader} runs r) = run_due runs (λ none. a_job (shader, runs, none)) r
 
 -- what is asked of a call
-record Premises (words : List (List ℕ)) (reads : List (Option (List ℕ))) (shelf : ShelfChange) (request : Request) : Type 0 where
+record Premises (words : List (List ℕ)) (reads : List (Option (List ℕ))) (shelf : ShelfChange) (sink : SinkChange) (request : Request) : Type 0 where
   asked : request_of words ≡ Some request
   no_fault : shelf.failed' ≡ shelf.failed
+  no_rise : Rose sink.faults sink.faults' → ⊥
   not_refused : ShaderRead Refuses reads → ⊥
   a_job : JobRead NoJob reads → ⊥
 
-module _ (words : List (List ℕ)) (reads : List (Option (List ℕ))) (shelf : ShelfChange) (sink : SinkChange) (status : ℕ) (cause : HasCause words reads shelf sink status) (request : Request) (p : Premises words reads shelf request) where
+module _ (words : List (List ℕ)) (reads : List (Option (List ℕ))) (shelf : ShelfChange) (sink : SinkChange) (status : ℕ) (cause : HasCause words reads shelf sink status) (request : Request) (p : Premises words reads shelf sink request) where
   no_unread : Unread words reads shelf sink → ⊥
   no_unread u = let rose : faults_of u.file.name shelf.failed < faults_of u.file.name shelf.failed' = u.rose in omega (arith, ap (faults_of u.file.name) p.no_fault)
 
   none_some : request_of words ≡ None → ⊥
   none_some none = let two : None ≡ Some request = sym none ∙ p.asked in cc
 
-  by_status : (n : ℕ) → Known n → status ≡ n → Decides status
-  by_status _ zero_ is = inl is
-  by_status _ one_ is = inr (inl is)
-  by_status _ two_ is = absurd (p.not_refused (refuses sink reads (cause.refused is)))
-  by_status _ three_ is = absurd (none_some (cause.bad_words is))
-  by_status _ four_ is = absurd (p.a_job (cause.bad_job is))
-  by_status _ five_ is = absurd (no_unread (cause.unread is))
-  by_status _ eight_ is = inr (inr (inr (inl is)))
-  by_status _ nine_ is = inr (inr (inr (inr is)))
+  same_request : (other : Request) → request_of words ≡ Some other → other ≡ request
+  same_request other is = let two : Some other ≡ Some request = sym is ∙ p.asked in cc
 
-  by_end : (Rose sink.faults sink.faults' → ⊥) → Ends words reads sink status → Decides status
-  by_end none (written {answer = answer} a (whole is told same)) = by_status answer.status (words_known a) is
-  by_end none (written a (cut n short six told rose)) = absurd (none (cause.unwritten six))
-  by_end none (no_memory other may seven told same) = inr (inr (inl seven))
+  answer_due : (answer : Answer) → status ≡ answer.status → IsAnswer words reads answer → IsDue request reads answer
+  answer_due answer is (no_form none empty) = absurd (none_some none)
+  answer_due answer is (answered {request = other} asked a) =
+      subst (λ (q : Request). IsDue q reads answer) (same_request other asked) (due p.not_refused p.a_job (λ five. no_unread (cause.unread (is ∙ five))) a)
+
+  by_end : Ends words reads sink status → Completes request reads sink status
+  by_end (written {answer = answer} a (whole is told same)) = given (answer_due answer is a) is told
+  by_end (written a (cut n short six told rose)) = absurd (p.no_rise (cause.unwritten six))
+  by_end (no_memory_ other may seven told same) = no_memory seven told
 
 pub completeness : Completeness
 completeness words request shelf sink status call asked no_fault none not_refused a_job =
-    by_end words call.reads shelf sink status call.cause request (record { asked = asked; no_fault = no_fault; not_refused = not_refused; a_job = a_job }) none call.ends
+    by_end words call.reads shelf sink status call.cause request (record { asked = asked; no_fault = no_fault; no_rise = none; not_refused = not_refused; a_job = a_job }) call.ends

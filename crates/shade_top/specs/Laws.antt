@@ -1,11 +1,20 @@
 -- Laws of the answer and of calls.
-use Rattle.std.specs.Prelude.{◌≡◌, ◌⊎◌, ℕ, List, Option, Some}
+use Rattle.std.specs.Prelude.{◌≡◌, ◌≢◌, ℕ, List, [], ◌∷◌, Option, Some}
+use Rattle.shade_base.specs.declared.severity.Severity.TheVariants.{Error}
 use Rattle.shade_base.specs.Counter.{Rose}
-use Rattle.shade_top.specs.Answer.{Answer, IsAnswer, NoJob}
+use Rattle.shade_base.specs.Sink.{with_piece}
+use Rattle.shade_core.specs.declared.module.CoreModule.{CoreModule}
+use Rattle.shade_verdict.specs.declared.violation.Violation.{Violation}
+use Rattle.shade_verdict.specs.Violations.{AreViolations}
+use Rattle.shade_report.specs.CheckReport.{count_of}
+use Rattle.shade_job.specs.Steps.{States}
+use Rattle.shade_top.specs.Answer.{Answer, IsAnswer, NoJob, Runs, lanes_of, outcome, verdict}
+use Rattle.shade_top.specs.Answer.{ran as machine_after}
 use Rattle.shade_top.specs.Causes.{IsExact, JobRead, Refuses, ShaderRead}
 use Rattle.shade_top.specs.Changes.{ShelfChange, SinkChange}
-use Rattle.shade_top.specs.Request.{Request, request_of}
+use Rattle.shade_top.specs.Request.{Request, Check, Run, request_of}
 use Rattle.shade_top.specs.Serves.{Serves}
+use Rattle.shade_top.specs.Text.{IsModuleOf}
 
 -- The answer is a function of the words and of what was read.
 abbrev pub OneAnswer : Type 0
@@ -15,8 +24,21 @@ OneAnswer = (words : List (List ℕ)) (reads : List (Option (List ℕ))) (one ot
 abbrev pub ExactStatuses : Type 0
 ExactStatuses = (words : List (List ℕ)) (reads : List (Option (List ℕ))) (answer : Answer) → IsAnswer words reads answer → IsExact words reads answer
 
--- Where the words fit a form, no read failed and no write did, the shader's text is not refused and its job, if it is read, is one, a call ends with
--- 0, 1, 8 or 9, or for want of memory with 7.
+-- The answer to a request in whose way nothing stands: the verdict on the module that the shader stands for; or, of a run whose shader has no
+-- error, the outcome of the steps that its job states.
+pub data IsDue : Request → List (Option (List ℕ)) → Answer → Type 0 where
+  judged : {file bytes : List ℕ} {shader : CoreModule} {violations : List Violation} → IsModuleOf bytes shader → AreViolations shader.functions violations → IsDue (Check file) (Some bytes ∷ []) (verdict shader.functions violations)
+  rejected : {file job bytes : List ℕ} {shader : CoreModule} {violations : List Violation} → IsModuleOf bytes shader → AreViolations shader.functions violations → count_of Error violations ≢ 0
+      → IsDue (Run file job) (Some bytes ∷ []) (verdict shader.functions violations)
+  ran : {file job bytes lines steps : List ℕ} {shader : CoreModule} → Runs bytes shader → States (lanes_of shader) lines steps → IsDue (Run file job) (Some bytes ∷ Some lines ∷ []) (outcome shader (machine_after shader steps))
+
+-- The answer that is due was written whole, and the status is its own; or memory ran out and nothing was written.
+pub data Completes (request : Request) (reads : List (Option (List ℕ))) (sink : SinkChange) (status : ℕ) : Type 0 where
+  given : {answer : Answer} → IsDue request reads answer → status ≡ answer.status → sink.taken' ≡ with_piece sink.taken answer.text → Completes request reads sink status
+  no_memory : status ≡ 7 → sink.taken' ≡ sink.taken → Completes request reads sink status
+
+-- Where the words fit a form, no read failed and no write did, the shader's text is not refused and its job, if it is read, is one, a call gives
+-- the answer that is due, or runs out of memory. So a check ends with 0, 1 or 7, and a run with 0, 1, 8, 9 or 7.
 abbrev pub Completeness : Type 0
 Completeness =
     (words : List (List ℕ)) (request : Request) (shelf : ShelfChange) (sink : SinkChange) (status : ℕ)
@@ -26,4 +48,4 @@ Completeness =
     → (Rose sink.faults sink.faults' → ⊥)
     → (ShaderRead Refuses call.reads → ⊥)
     → (JobRead NoJob call.reads → ⊥)
-    → (status ≡ 0) ⊎ ((status ≡ 1) ⊎ ((status ≡ 7) ⊎ ((status ≡ 8) ⊎ (status ≡ 9))))
+    → Completes request call.reads sink status

@@ -39,8 +39,8 @@ pub fn statuses_are_exact()
     tokens_are_parsed_once();
 }
 
-/// Words that fit a form are answered by 0, 1, 8 or 9 where no read and no write fails, the text is not refused and the job is
-/// one, or memory runs out.
+/// Words that fit a form are answered where no read and no write fails, the text is not refused and the job is one: the verdict of a
+/// check, with 0 or 1, or the outcome of a run, with 0, 1, 8 or 9, is written whole; or memory runs out, and the status is 7.
 pub fn fitting_words_are_answered()
     ensures { Completeness }
 {}
