@@ -1,3 +1,4 @@
 pub mod LaneLaws
 pub mod SizeLaws
 pub mod Able
+pub mod OverLaws

@@ -22,7 +22,8 @@ pub struct Group<'m> {
 impl<'m> Group<'m> {
     ghost use Rattle.shade_group.specs.Seen.{machine_of};
 
-    /// One step of the lane with this number, and what it was. Where memory is wanting the group is as before.
+    /// One step of the lane with this number, and what it was. Where memory is wanting the group is as before. After a divergence, or
+    /// where every lane ended, it is a stutter (`runs_that_are_over_stutter`).
     pub fn step(&mut self, lane: u32) -> Result<GroupEvent, AllocError>
         requires { lane < length (machine_of self.old).members }
         ensures ok { OnOk result (machine_of self.new ≡ step_of (machine_of self.old) lane) }

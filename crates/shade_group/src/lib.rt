@@ -7,10 +7,12 @@ mod begin;
 mod event;
 mod group;
 mod lanes;
+mod law;
 mod runnable;
 mod steps;
 mod workgroup;
 
 pub use event::{Epochs, GroupEvent, RunEnd};
 pub use group::Group;
+pub use law::runs_that_are_over_stutter;
 pub use runnable::is_runnable;
