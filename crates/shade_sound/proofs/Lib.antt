@@ -1,5 +1,14 @@
-mod Regions
-mod Owed
-mod Runs
+mod Bools
+mod Rules
+mod Closed
+mod Rests
+mod Moves
+mod Holds
+mod Follows
+mod Shadows
+mod Groups
+mod Numbers
+mod Markings
+mod Converges
 mod Firsts
 mod Severities

@@ -16,8 +16,7 @@ use Rattle.shade_verdict.specs.Violations.{IsViolation, Shows, second_node}
 use Rattle.shade_first.specs.Lowering.{function_of}
 use Rattle.shade_first.specs.FirstForm.{StandsFor}
 use Rattle.shade_sound.specs.Laws.{CleanWithoutErrors}
-use Rattle.shade_sound.proofs.Regions.{Items, none, meet, split}
-use Rattle.shade_sound.proofs.Firsts.{body_items, only_one, none_off}
+use Rattle.shade_sound.proofs.Firsts.{Items, none, meet, split, body_items, only_one, none_off}
 
 -- each barrier of a list has the severity error
 abbrev AsksError : Plain → Type 0
@@ -30,7 +29,7 @@ AllAskError (jump n act rest) = AllAskError rest
 AllAskError (branch n cond one two rest) = AllAskError one × AllAskError two × AllAskError rest
 AllAskError _ = Unit {0}
 
-items_ask : {n : ℕ} {tail c : Code} → Items n tail c → AllAskError tail → AllAskError c
+items_ask : {n m : ℕ} {tail c : Code} → Items n tail c m → AllAskError tail → AllAskError c
 items_ask none h = h
 items_ask (meet i) h = (refl, items_ask i h)
 items_ask (split i j) h = (tt, (items_ask i tt, tt, items_ask j h))

@@ -4,6 +4,5 @@
 mod law;
 
 pub use law::{
-    clean_never_diverges, clean_traces_agree, clean_without_errors, first_form_runs,
-    no_violation_is_clean,
+    clean_never_diverges, clean_traces_agree, clean_without_errors, first_form_is_ready,
 };

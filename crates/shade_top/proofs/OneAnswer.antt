@@ -8,7 +8,7 @@ use Rattle.shade_verdict.specs.Laws.{OneVerdict}
 use Rattle.shade_first.specs.FirstForm.{StandsFor}
 use Rattle.shade_first.specs.Laws.{OneModule, OnePlace, NeverBoth}
 use Rattle.shade_group.specs.Group.{members_from, sized_members, entry_members, sized_runs, entry_runs, lane_count}
-use Rattle.shade_sound.specs.Laws.{FirstFormRuns}
+use Rattle.shade_sound.specs.Laws.{FirstFormIsReady}
 use Rattle.shade_job.specs.Steps.{States}
 use Rattle.shade_job.specs.Laws.{OneJob}
 use Rattle.shade_top.specs.Answer.{Answer, IsAnswer, no_form, answered, IsAnswerTo, check_unread, checked, run_unread, stopped, job_unread, run_, IsChecked, refused, judged, IsRan, no_job, job, NoJob, Runs, bad_words, fault_read, refusal, refused_job, verdict, inputs, lanes_of, ran, outcome}
@@ -92,7 +92,7 @@ one_request asked a b e f = let same : Some a ≡ Some b = sym e ∙ f in cc
 abbrev OneTemplates : Type 0
 OneTemplates = (text : List ℕ) (tokens : List Token) → HaveOneReading text tokens
 
-module _ (modules : OneModule) (places : OnePlace) (both : NeverBoth) (verdicts : OneVerdict) (jobs : OneJob) (runnable : FirstFormRuns) (reads : (text : List ℕ) → IsReadOnce text) (lists : OneTemplates) (trees : (tokens : List Lexeme) → IsParsedOnce tokens) where
+module _ (modules : OneModule) (places : OnePlace) (both : NeverBoth) (verdicts : OneVerdict) (jobs : OneJob) (ready : FirstFormIsReady) (reads : (text : List ℕ) → IsReadOnce text) (lists : OneTemplates) (trees : (tokens : List Lexeme) → IsParsedOnce tokens) where
   one_verdict : (bytes : List ℕ) (m n : CoreModule) (vs ws : List Violation) → StandsFor bytes m → StandsFor bytes n → AreViolations m.functions vs → AreViolations n.functions ws → verdict m.functions vs ≡ verdict n.functions ws
   one_verdict bytes m n vs ws sm sn am an =
       let same : m ≡ n = modules bytes m n sm sn in
@@ -106,7 +106,7 @@ module _ (modules : OneModule) (places : OnePlace) (both : NeverBoth) (verdicts 
   checked_one bytes a b (inr x) (inr y) = x.4 ∙ (one_verdict bytes x.0 y.0 x.1 y.1 x.2 y.2 x.3 y.3 ∙ sym y.4)
 
   few_lanes : (bytes : List ℕ) (shader : CoreModule) → StandsFor bytes shader → lanes_of shader < 2 ^ 32
-  few_lanes bytes shader stands = let few : lanes_of shader ≤ 256 = few_entry (slice_get shader.functions 0) (runnable bytes shader stands).body in omega arith
+  few_lanes bytes shader stands = let few : lanes_of shader ≤ 256 = few_entry (slice_get shader.functions 0) (ready bytes shader stands).runs.body in omega arith
 
   ran_one : (bytes : List ℕ) (shader : CoreModule) → StandsFor bytes shader → (steps : List ℕ) (a b : Answer) → RanCases shader steps a → RanCases shader steps b → a ≡ b
   ran_one bytes shader stands steps a b (inl x) (inl y) = x.1 ∙ sym y.1

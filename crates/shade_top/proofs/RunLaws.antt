@@ -2,13 +2,10 @@
 use Rattle.std.proofs.Common.{◌≡◌, sym, ◌∙◌, ap, subst, ℕ, zero, suc, ◌<◌, List, [], ◌∷◌, length, slice_get, Some}
 use Rattle.std.specs.Prelude.{IfOk, Result, Ok, Err}
 use Rattle.shade_core.specs.declared.module.CoreModule.{CoreModule}
-use Rattle.shade_first.specs.FirstForm.{StandsFor}
 use Rattle.shade_mem.specs.declared.inputs.Inputs.{Inputs}
 use Rattle.shade_group.specs.Group.{Machine, begin, run}
 use Rattle.shade_job.specs.Steps.{AllBelow, States}
 use Rattle.shade_top.specs.Answer.{Answer, IsRan, no_job, job, inputs, lanes_of, outcome, refused_job}
-use Rattle.shade_sound.specs.Laws.{FirstFormRuns}
-use Rattle.shade_top.specs.Report.{IsReady}
 
 -- each step of a job is the number of a lane
 below_at : (lanes : ℕ) (steps : List ℕ) (i n : ℕ) → AllBelow lanes steps → slice_get steps i ≡ Some n → n < lanes
@@ -37,7 +34,3 @@ module _ (shader : CoreModule) (given : Inputs) (m : Machine) (lanes : ℕ) (giv
   refusal_answers f (Ok report) bytes none is =
       subst (IsRan shader bytes) (sym is) (no_job (λ steps states. none steps (subst (λ l. States l bytes steps) (sym lanes_are) states)))
   refusal_answers f (Err e) bytes none is = tt
-
--- the machine runs the module of a text
-pub ready : FirstFormRuns → (bytes : List ℕ) (shader : CoreModule) → StandsFor bytes shader → IsReady shader
-ready law bytes shader stands = record { runs = law bytes shader stands; rootless = stands.stands.roots }

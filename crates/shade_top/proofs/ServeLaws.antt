@@ -10,7 +10,7 @@ use Rattle.shade_verdict.specs.declared.violation.Violation.{Violation}
 use Rattle.shade_graph.specs.Graph.{Among, here, later}
 use Rattle.shade_graph.specs.Order.{severity_rank}
 use Rattle.shade_report.specs.CheckReport.{count_of}
-use Rattle.shade_sound.specs.Laws.{NeverDiverges, CleanWithoutErrors, HasError}
+use Rattle.shade_sound.specs.Laws.{NeverDiverges, CleanWithoutErrors, FirstFormIsReady, HasError, IsReady}
 use Rattle.shade_top.specs.Answer.{Answer, IsAnswer, no_form, answered, IsAnswerTo, Runs, bad_words, inputs}
 use Rattle.shade_top.specs.Causes.{Diverges, HasCause, JobRead, RefusesAloud, Unread, unread_file}
 use Rattle.shade_top.specs.Changes.{ShelfChange, SinkChange}
@@ -38,10 +38,10 @@ errors_count v vs (later {other = other} {rest = rest} among) is =
     let more : count_of Error (other ∷ rest) ≡ (0 + cond (severity_rank other.severity == severity_rank Error) 1 0) + count_of Error rest = one_more_count other rest in
     omega arith
 
-module _ (never : NeverDiverges) (clean : CleanWithoutErrors) where
+module _ (never : NeverDiverges) (clean : CleanWithoutErrors) (first : FirstFormIsReady) where
   -- a shader that runs is clean
   no_divergence : (bytes : List ℕ) (shader : CoreModule) (job : List ℕ) → Runs bytes shader → Diverges shader job → ⊥
-  no_divergence bytes shader job r d = d.2 (never bytes shader inputs d.0 r.is.stands ((clean bytes shader r.violations r.is.stands r.are).0 no_error)) where
+  no_divergence bytes shader job r d = let ready : IsReady shader = first bytes shader r.is.stands in d.2 (never shader inputs d.0 ready.numbered ready.runs ((clean bytes shader r.violations r.is.stands r.are).0 no_error)) where
     no_error : HasError r.violations → ⊥
     no_error h = let some : 1 ≤ count_of Error r.violations = errors_count h.0 r.violations h.1 h.2 in let none : count_of Error r.violations ≡ 0 = r.no_errors in omega arith
 

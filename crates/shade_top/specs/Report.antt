@@ -2,8 +2,6 @@
 use Rattle.std.specs.Prelude.{◌≡◌, ℕ, List, [], ◌∷◌, Result, Ok, Err, IfOk, Option, Some, None, Vec}
 use Rattle.std.specs.Option.{option_map}
 use Rattle.std.specs.declared.alloc.Global.{Global}
-use Rattle.shade_core.specs.declared.module.CoreModule.{CoreModule}
-use Rattle.shade_group.specs.Group.{IsRunnable}
 use Rattle.shade_lex.specs.declared.fault.LexFault.{LexFault}
 use Rattle.shade_lex.specs.declared.fault.LexFault.TheVariants as lex_fault
 use Rattle.shade_lex.specs.declared.piece.Problem.TheVariants as problem
@@ -49,11 +47,6 @@ syntax_refusal syntax_fault.NoMemory = None
 abbrev pub IsReadingOf : List ℕ → Reading → Type 0
 IsReadingOf bytes (reading.Shader shader) = IsModuleOf bytes shader
 IsReadingOf bytes (reading.Refused why) = IsRefused bytes why
-
--- a module that the machine runs
-pub record IsReady (shader : CoreModule) : Type 0 where
-  pub runs : IsRunnable shader 0
-  pub rootless : shader.roots ≡ []
 
 -- a read of one file: what it gave, or want of memory, which leaves the failed names
 abbrev pub IsReadBy : {E : Type 0} → ShelfChange → File → Result (Option (Vec ℕ Global)) E → Type 0

@@ -5,7 +5,8 @@ ghost use Rattle.shade_group.specs.Group.{run};
 ghost use Rattle.shade_group.specs.Seen.{machine_of};
 ghost use Rattle.shade_top.specs.Answer.{inputs as run_inputs, IsRan, outcome, refused_job as refused_job_answer, run_status, Runs};
 ghost use Rattle.shade_top.specs.Changes.{shelf_change};
-ghost use Rattle.shade_top.specs.Report.{answer_of, IsReady, RunOutcome};
+ghost use Rattle.shade_sound.specs.Laws.{IsReady};
+ghost use Rattle.shade_top.specs.Report.{answer_of, RunOutcome};
 ghost use Rattle.shade_top.specs.Text.{IsModuleOf};
 
 use crate::report::{Report, has_error, read, refused, unread, verdict};
@@ -16,7 +17,7 @@ use shade_group::{Group, RunEnd};
 use shade_job::{JobFault, MOST_BYTES, read_steps};
 use shade_mem::Inputs;
 use shade_report::{job_refusal_text, run_text};
-use shade_sound::first_form_runs;
+use shade_sound::first_form_is_ready;
 use shade_verdict::violations_of;
 use sqlite_items::Items;
 use std::alloc::{AllocError, Global};
@@ -32,7 +33,7 @@ pub fn run_bytes<H: Shelf>(
     ensures texts { H.texts shelf.new ≡ H.texts shelf.old }
 {
     // A law, whose clause the proof uses; it does nothing when it runs.
-    first_form_runs();
+    first_form_is_ready();
     match read_shader(alloc, bytes) {
         Ok(Reading::Shader(shader)) => run_shader(alloc, &shader, job, shelf),
         Ok(Reading::Refused(refusal)) => refused(alloc, refusal),

@@ -8,7 +8,7 @@ ghost use Rattle.shade_top.specs.Serves.{IsWritten, Serves};
 use crate::report::report_on;
 use crate::request::request_of;
 use shade_base::{Shelf, Sink, Status};
-use shade_sound::{clean_never_diverges, clean_without_errors};
+use shade_sound::{clean_never_diverges, clean_without_errors, first_form_is_ready};
 use std::alloc::{AllocError, Global};
 
 /// Answers the words: reads the files that they name, each at most once, and writes one text.
@@ -31,6 +31,7 @@ pub fn serve<H: Shelf, K: Sink>(
     // Laws, whose clauses the proof uses; they do nothing when they run.
     clean_never_diverges();
     clean_without_errors();
+    first_form_is_ready();
     let Some(request) = request_of(words) else {
         return written(out, Status::BAD_WORDS, b"bad words\n");
     };

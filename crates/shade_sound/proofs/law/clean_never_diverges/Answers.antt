@@ -1,4 +1,4 @@
-use Rattle.shade_sound.proofs.Firsts.{never}
+use Rattle.shade_sound.proofs.Converges.{never}
 use Rattle.shade_sound.proofs.law.clean_never_diverges.Goals as goal
 
 pub returns : goal.returns

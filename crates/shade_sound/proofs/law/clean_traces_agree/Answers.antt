@@ -1,4 +1,4 @@
-use Rattle.shade_sound.proofs.Firsts.{traces}
+use Rattle.shade_sound.proofs.Converges.{traces}
 use Rattle.shade_sound.proofs.law.clean_traces_agree.Goals as goal
 
 pub returns : goal.returns
