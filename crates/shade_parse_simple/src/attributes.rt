@@ -1,6 +1,6 @@
 //! Attributes.
 
-ghost use Rattle.std.specs.Prelude.{◌≡◌, ◌+◌, ◌<◌, ◌≤◌, ◌^◌, length, IfOk, MatchResult};
+ghost use Rattle.std.specs.Prelude.{◌≡◌, IfOk, MatchResult};
 ghost use Rattle.shade_ast.specs.declared.lexeme.Sign.TheVariants as sign_;
 ghost use Rattle.shade_ast.specs.Lexemes.{Mark};
 ghost use Rattle.shade_ast.specs.Names.{Grows};
@@ -10,6 +10,7 @@ ghost use Rattle.shade_parse_simple.specs.Maybes.{MaybeFaults, MaybeOf};
 ghost use Rattle.shade_parse_simple.specs.Readings.{arguments_seen, attr_name_seen, attr_seen, attrs_seen, first_of, ReadsOf};
 ghost use Rattle.shade_parse_expr.specs.Parts.{Faults};
 ghost use Rattle.shade_cursor.specs.Shown.{lexemes};
+ghost use Rattle.shade_parse_expr.specs.Reading.{CanRead, Went, WentOrStayed};
 
 use crate::items::push;
 use crate::read::Read;
@@ -31,16 +32,11 @@ pub fn attributes(
     from: usize,
     node: u32,
 ) -> Result<Read<Items<Attr>>, Fault>
-    requires within { from ≤ length pieces.now }
-    requires node { node + length pieces.now < 2 ^ 32 + from }
-    requires names { length names.old + length pieces.now < 2 ^ 32 + from }
+    requires can { CanRead pieces.now names.old from node }
     ensures tree { MatchResult result (λ r. ReadsOf attrs_seen (Many Attribute) 8 (lexemes pieces.now) names.new from node r)
         (λ f. Faults (Many Attribute) 8 (lexemes pieces.now) names.old names.new from f) }
     ensures grows { Grows names.old names.new }
-    ensures further { IfOk result (λ r. from ≤ r.end) }
-    ensures within { IfOk result (λ r. r.end ≤ length pieces.now) }
-    ensures node { IfOk result (λ r. r.node + from ≤ node + r.end) }
-    ensures names { IfOk result (λ r. length names.new + from ≤ length names.old + r.end) }
+    ensures went { IfOk result (λ r. WentOrStayed pieces.now names.old names.new from node r.end r.node) }
 {
     let mut attrs = Items::new(alloc);
     let mut at = from;
@@ -66,16 +62,11 @@ fn attribute(
     from: usize,
     node: u32,
 ) -> Result<Read<Attr>, Fault>
-    requires within { from ≤ length pieces.now }
-    requires node { node + length pieces.now < 2 ^ 32 + from }
-    requires names { length names.old + length pieces.now < 2 ^ 32 + from }
+    requires can { CanRead pieces.now names.old from node }
     ensures tree { MatchResult result (λ r. ReadsOf attr_seen Attribute 1 (lexemes pieces.now) names.new from node r)
         (λ f. Faults Attribute 1 (lexemes pieces.now) names.old names.new from f) }
     ensures grows { Grows names.old names.new }
-    ensures further { IfOk result (λ r. from < r.end) }
-    ensures within { IfOk result (λ r. r.end ≤ length pieces.now) }
-    ensures node { IfOk result (λ r. r.node + from ≤ node + r.end) }
-    ensures names { IfOk result (λ r. length names.new + from ≤ length names.old + r.end) }
+    ensures went { IfOk result (λ r. Went pieces.now names.old names.new from node r.end r.node) }
 {
     let Some(place) = mark_at(pieces, from, Sign::At) else {
         return Err(Fault::Unexpected(from));
@@ -101,16 +92,11 @@ fn attr_name(
     from: usize,
     node: u32,
 ) -> Result<Read<AttrName>, Fault>
-    requires within { from ≤ length pieces.now }
-    requires node { node + length pieces.now < 2 ^ 32 + from }
-    requires names { length names.old + length pieces.now < 2 ^ 32 + from }
+    requires can { CanRead pieces.now names.old from node }
     ensures tree { MatchResult result (λ r. ReadsOf attr_name_seen AttrNamePhrase 0 (lexemes pieces.now) names.new from node r)
         (λ f. Faults AttrNamePhrase 0 (lexemes pieces.now) names.old names.new from f) }
     ensures grows { Grows names.old names.new }
-    ensures further { IfOk result (λ r. from < r.end) }
-    ensures within { IfOk result (λ r. r.end ≤ length pieces.now) }
-    ensures node { IfOk result (λ r. r.node + from ≤ node + r.end) }
-    ensures names { IfOk result (λ r. length names.new + from ≤ length names.old + r.end) }
+    ensures went { IfOk result (λ r. Went pieces.now names.old names.new from node r.end r.node) }
 {
     if let Some(place) = key_at(pieces, from, Keyword::Diagnostic) {
         return Ok(Read {
@@ -142,16 +128,11 @@ fn maybe_arguments(
     from: usize,
     node: u32,
 ) -> Result<Read<Option<Arguments>>, Fault>
-    requires within { from ≤ length pieces.now }
-    requires node { node + length pieces.now < 2 ^ 32 + from }
-    requires names { length names.old + length pieces.now < 2 ^ 32 + from }
+    requires can { CanRead pieces.now names.old from node }
     ensures tree { MatchResult result (λ r. MaybeOf arguments_seen (Mark sign_.Open) AttrArguments 0 (lexemes pieces.now) names.new from node r)
         (λ f. MaybeFaults (Mark sign_.Open) AttrArguments 0 (lexemes pieces.now) names.old names.new from f) }
     ensures grows { Grows names.old names.new }
-    ensures further { IfOk result (λ r. from ≤ r.end) }
-    ensures within { IfOk result (λ r. r.end ≤ length pieces.now) }
-    ensures node { IfOk result (λ r. r.node + from ≤ node + r.end) }
-    ensures names { IfOk result (λ r. length names.new + from ≤ length names.old + r.end) }
+    ensures went { IfOk result (λ r. WentOrStayed pieces.now names.old names.new from node r.end r.node) }
 {
     let Some(_) = mark_at(pieces, from, Sign::Open) else {
         return Ok(Read {

@@ -1,6 +1,6 @@
 //! Declarations by `var`, `const` and `let`.
 
-ghost use Rattle.std.specs.Prelude.{◌≡◌, ◌+◌, ◌<◌, ◌≤◌, ◌^◌, length, IfOk, MatchResult};
+ghost use Rattle.std.specs.Prelude.{◌+◌, ◌<◌, IfOk, MatchResult};
 ghost use Rattle.shade_ast.specs.declared.lexeme.Sign.TheVariants as sign_;
 ghost use Rattle.shade_ast.specs.Lexemes.{Mark};
 ghost use Rattle.shade_ast.specs.Names.{Grows};
@@ -10,6 +10,7 @@ ghost use Rattle.shade_parse_simple.specs.Readings.{access_seen, binding_seen, e
 ghost use Rattle.shade_parse_simple.specs.Rests.{Bound, SpaceEnd};
 ghost use Rattle.shade_parse_expr.specs.Parts.{Faults};
 ghost use Rattle.shade_cursor.specs.Shown.{lexemes};
+ghost use Rattle.shade_parse_expr.specs.Reading.{CanRead, Went, WentOrStayed};
 
 use crate::read::{Read, refuse};
 use crate::tokens::{closed, name};
@@ -29,16 +30,11 @@ pub fn maybe_type(
     from: usize,
     node: u32,
 ) -> Result<Read<Option<Expr>>, Fault>
-    requires within { from ≤ length pieces.now }
-    requires node { node + length pieces.now < 2 ^ 32 + from }
-    requires names { length names.old + length pieces.now < 2 ^ 32 + from }
+    requires can { CanRead pieces.now names.old from node }
     ensures tree { MatchResult result (λ r. MaybeOf expr_seen (Mark sign_.Colon) OfType 0 (lexemes pieces.now) names.new from node r)
         (λ f. MaybeFaults (Mark sign_.Colon) OfType 0 (lexemes pieces.now) names.old names.new from f) }
     ensures grows { Grows names.old names.new }
-    ensures further { IfOk result (λ r. from ≤ r.end) }
-    ensures within { IfOk result (λ r. r.end ≤ length pieces.now) }
-    ensures node { IfOk result (λ r. r.node + from ≤ node + r.end) }
-    ensures names { IfOk result (λ r. length names.new + from ≤ length names.old + r.end) }
+    ensures went { IfOk result (λ r. WentOrStayed pieces.now names.old names.new from node r.end r.node) }
 {
     let Some(_) = mark_at(pieces, from, Sign::Colon) else {
         return Ok(Read {
@@ -64,16 +60,12 @@ pub fn of_type(
     from: usize,
     node: u32,
 ) -> Result<Read<Expr>, Fault>
-    requires within { from ≤ length pieces.now }
-    requires node { node + length pieces.now < 2 ^ 32 + from }
-    requires names { length names.old + length pieces.now < 2 ^ 32 + from }
+    requires can { CanRead pieces.now names.old from node }
     ensures tree { MatchResult result (λ r. ReadsOf expr_seen OfType 0 (lexemes pieces.now) names.new from node r)
         (λ f. Faults OfType 0 (lexemes pieces.now) names.old names.new from f) }
     ensures grows { Grows names.old names.new }
-    ensures further { IfOk result (λ r. from < r.end) }
-    ensures within { IfOk result (λ r. r.end ≤ length pieces.now) }
+    ensures went { IfOk result (λ r. Went pieces.now names.old names.new from node r.end r.node) }
     ensures node { IfOk result (λ r. r.node + from < node + r.end) }
-    ensures names { IfOk result (λ r. length names.new + from ≤ length names.old + r.end) }
 {
     let Some(_) = mark_at(pieces, from, Sign::Colon) else {
         return Err(Fault::Unexpected(from));
@@ -95,16 +87,11 @@ pub fn maybe_value(
     from: usize,
     node: u32,
 ) -> Result<Read<Option<Expr>>, Fault>
-    requires within { from ≤ length pieces.now }
-    requires node { node + length pieces.now < 2 ^ 32 + from }
-    requires names { length names.old + length pieces.now < 2 ^ 32 + from }
+    requires can { CanRead pieces.now names.old from node }
     ensures tree { MatchResult result (λ r. MaybeOf expr_seen (Mark sign_.Equal) HasValue 7 (lexemes pieces.now) names.new from node r)
         (λ f. MaybeFaults (Mark sign_.Equal) HasValue 7 (lexemes pieces.now) names.old names.new from f) }
     ensures grows { Grows names.old names.new }
-    ensures further { IfOk result (λ r. from ≤ r.end) }
-    ensures within { IfOk result (λ r. r.end ≤ length pieces.now) }
-    ensures node { IfOk result (λ r. r.node + from ≤ node + r.end) }
-    ensures names { IfOk result (λ r. length names.new + from ≤ length names.old + r.end) }
+    ensures went { IfOk result (λ r. WentOrStayed pieces.now names.old names.new from node r.end r.node) }
 {
     let Some(_) = mark_at(pieces, from, Sign::Equal) else {
         return Ok(Read {
@@ -130,16 +117,12 @@ pub fn has_value(
     from: usize,
     node: u32,
 ) -> Result<Read<Expr>, Fault>
-    requires within { from ≤ length pieces.now }
-    requires node { node + length pieces.now < 2 ^ 32 + from }
-    requires names { length names.old + length pieces.now < 2 ^ 32 + from }
+    requires can { CanRead pieces.now names.old from node }
     ensures tree { MatchResult result (λ r. ReadsOf expr_seen HasValue 7 (lexemes pieces.now) names.new from node r)
         (λ f. Faults HasValue 7 (lexemes pieces.now) names.old names.new from f) }
     ensures grows { Grows names.old names.new }
-    ensures further { IfOk result (λ r. from < r.end) }
-    ensures within { IfOk result (λ r. r.end ≤ length pieces.now) }
+    ensures went { IfOk result (λ r. Went pieces.now names.old names.new from node r.end r.node) }
     ensures node { IfOk result (λ r. r.node + from < node + r.end) }
-    ensures names { IfOk result (λ r. length names.new + from ≤ length names.old + r.end) }
 {
     let Some(_) = mark_at(pieces, from, Sign::Equal) else {
         return Err(Fault::Unexpected(from));
@@ -162,16 +145,11 @@ pub fn bound(
     node: u32,
     keyword: Place,
 ) -> Result<Read<Binding>, Fault>
-    requires within { from ≤ length pieces.now }
-    requires node { node + length pieces.now < 2 ^ 32 + from }
-    requires names { length names.old + length pieces.now < 2 ^ 32 + from }
+    requires can { CanRead pieces.now names.old from node }
     ensures tree { MatchResult result (λ r. ReadsOf binding_seen (Bound keyword) 7 (lexemes pieces.now) names.new from node r)
         (λ f. Faults (Bound keyword) 7 (lexemes pieces.now) names.old names.new from f) }
     ensures grows { Grows names.old names.new }
-    ensures further { IfOk result (λ r. from < r.end) }
-    ensures within { IfOk result (λ r. r.end ≤ length pieces.now) }
-    ensures node { IfOk result (λ r. r.node + from ≤ node + r.end) }
-    ensures names { IfOk result (λ r. length names.new + from ≤ length names.old + r.end) }
+    ensures went { IfOk result (λ r. Went pieces.now names.old names.new from node r.end r.node) }
 {
     let name = name(pieces, names, from, node)?;
     let ty = maybe_type(alloc, pieces, names, name.end, name.node)?;
@@ -198,16 +176,11 @@ fn access(
     from: usize,
     node: u32,
 ) -> Result<Read<(Option<Named>, bool)>, Fault>
-    requires within { from ≤ length pieces.now }
-    requires node { node + length pieces.now < 2 ^ 32 + from }
-    requires names { length names.old + length pieces.now < 2 ^ 32 + from }
+    requires can { CanRead pieces.now names.old from node }
     ensures tree { MatchResult result (λ r. ReadsOf access_seen SpaceEnd 0 (lexemes pieces.now) names.new from node r)
         (λ f. Faults SpaceEnd 0 (lexemes pieces.now) names.old names.new from f) }
     ensures grows { Grows names.old names.new }
-    ensures further { IfOk result (λ r. from < r.end) }
-    ensures within { IfOk result (λ r. r.end ≤ length pieces.now) }
-    ensures node { IfOk result (λ r. r.node + from ≤ node + r.end) }
-    ensures names { IfOk result (λ r. length names.new + from ≤ length names.old + r.end) }
+    ensures went { IfOk result (λ r. Went pieces.now names.old names.new from node r.end r.node) }
 {
     if let Some(_) = mark_at(pieces, from, Sign::CloseTemplate) {
         return Ok(Read {
@@ -242,16 +215,11 @@ fn maybe_space(
     from: usize,
     node: u32,
 ) -> Result<Read<Option<VarSpace>>, Fault>
-    requires within { from ≤ length pieces.now }
-    requires node { node + length pieces.now < 2 ^ 32 + from }
-    requires names { length names.old + length pieces.now < 2 ^ 32 + from }
+    requires can { CanRead pieces.now names.old from node }
     ensures tree { MatchResult result (λ r. MaybeOf var_space_seen (Mark sign_.OpenTemplate) VarSpacePhrase 0 (lexemes pieces.now) names.new from node r)
         (λ f. MaybeFaults (Mark sign_.OpenTemplate) VarSpacePhrase 0 (lexemes pieces.now) names.old names.new from f) }
     ensures grows { Grows names.old names.new }
-    ensures further { IfOk result (λ r. from ≤ r.end) }
-    ensures within { IfOk result (λ r. r.end ≤ length pieces.now) }
-    ensures node { IfOk result (λ r. r.node + from ≤ node + r.end) }
-    ensures names { IfOk result (λ r. length names.new + from ≤ length names.old + r.end) }
+    ensures went { IfOk result (λ r. WentOrStayed pieces.now names.old names.new from node r.end r.node) }
 {
     let Some(_) = mark_at(pieces, from, Sign::OpenTemplate) else {
         return Ok(Read {
@@ -283,16 +251,11 @@ pub fn var(
     from: usize,
     node: u32,
 ) -> Result<Read<Var>, Fault>
-    requires within { from ≤ length pieces.now }
-    requires node { node + length pieces.now < 2 ^ 32 + from }
-    requires names { length names.old + length pieces.now < 2 ^ 32 + from }
+    requires can { CanRead pieces.now names.old from node }
     ensures tree { MatchResult result (λ r. ReadsOf var_seen VarPhrase 8 (lexemes pieces.now) names.new from node r)
         (λ f. Faults VarPhrase 8 (lexemes pieces.now) names.old names.new from f) }
     ensures grows { Grows names.old names.new }
-    ensures further { IfOk result (λ r. from < r.end) }
-    ensures within { IfOk result (λ r. r.end ≤ length pieces.now) }
-    ensures node { IfOk result (λ r. r.node + from ≤ node + r.end) }
-    ensures names { IfOk result (λ r. length names.new + from ≤ length names.old + r.end) }
+    ensures went { IfOk result (λ r. Went pieces.now names.old names.new from node r.end r.node) }
 {
     let Some(keyword) = key_at(pieces, from, Keyword::Var) else {
         return Err(Fault::Unexpected(from));

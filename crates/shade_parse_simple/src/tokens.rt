@@ -1,6 +1,6 @@
 //! Names, and the token that closes a list.
 
-ghost use Rattle.std.specs.Prelude.{◌≡◌, ◌+◌, ◌<◌, ◌≤◌, ◌^◌, [], length, IfOk, MatchResult};
+ghost use Rattle.std.specs.Prelude.{◌≡◌, ◌<◌, ◌≤◌, [], length, IfOk, MatchResult};
 ghost use Rattle.shade_ast.specs.declared.lexeme.Sign.TheVariants as sign_;
 ghost use Rattle.shade_ast.specs.Names.{Grows};
 ghost use Rattle.shade_ast.specs.Statements.{Name};
@@ -9,6 +9,7 @@ ghost use Rattle.shade_parse_simple.specs.Readings.{named_seen, ReadsOf};
 ghost use Rattle.shade_parse_simple.specs.Rests.{Ending};
 ghost use Rattle.shade_parse_expr.specs.Parts.{Faults};
 ghost use Rattle.shade_cursor.specs.Shown.{lexemes};
+ghost use Rattle.shade_parse_expr.specs.Reading.{CanRead, Went};
 
 use crate::read::Read;
 use shade_ast::{Named, Names, Sign};
@@ -24,16 +25,11 @@ pub fn name(
     from: usize,
     node: u32,
 ) -> Result<Read<Named>, Fault>
-    requires within { from ≤ length pieces.now }
-    requires node { node + length pieces.now < 2 ^ 32 + from }
-    requires names { length names.old + length pieces.now < 2 ^ 32 + from }
+    requires can { CanRead pieces.now names.old from node }
     ensures tree { MatchResult result (λ r. ReadsOf named_seen Name 0 (lexemes pieces.now) names.new from node r)
         (λ f. Faults Name 0 (lexemes pieces.now) names.old names.new from f) }
     ensures grows { Grows names.old names.new }
-    ensures further { IfOk result (λ r. from < r.end) }
-    ensures within { IfOk result (λ r. r.end ≤ length pieces.now) }
-    ensures node { IfOk result (λ r. r.node + from ≤ node + r.end) }
-    ensures names { IfOk result (λ r. length names.new + from ≤ length names.old + r.end) }
+    ensures went { IfOk result (λ r. Went pieces.now names.old names.new from node r.end r.node) }
 {
     let Some((text, place)) = word_at(pieces, from) else {
         return Err(Fault::Unexpected(from));

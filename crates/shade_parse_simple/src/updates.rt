@@ -1,6 +1,6 @@
 //! What changes a variable or calls a function, and what may begin a `for`.
 
-ghost use Rattle.std.specs.Prelude.{◌≡◌, ◌+◌, ◌<◌, ◌≤◌, ◌^◌, length, slice_get, IfOk, MatchResult};
+ghost use Rattle.std.specs.Prelude.{◌≡◌, slice_get, IfOk, MatchResult};
 ghost use Rattle.shade_ast.specs.declared.lexeme.Sign.TheVariants as sign_;
 ghost use Rattle.shade_ast.specs.Lexemes.{Mark};
 ghost use Rattle.shade_ast.specs.Names.{Grows};
@@ -9,6 +9,7 @@ ghost use Rattle.shade_parse_simple.specs.Readings.{simple_seen, update_seen, Re
 ghost use Rattle.shade_parse_simple.specs.Updates.{assigned_by, NoOther};
 ghost use Rattle.shade_parse_expr.specs.Parts.{Faults};
 ghost use Rattle.shade_cursor.specs.Shown.{lexemes};
+ghost use Rattle.shade_parse_expr.specs.Reading.{CanRead, Went};
 
 use crate::bindings::{bound, var};
 use crate::operators::{assigning, begins_call};
@@ -29,16 +30,11 @@ pub fn simple(
     from: usize,
     node: u32,
 ) -> Result<Read<Simple>, Fault>
-    requires within { from ≤ length pieces.now }
-    requires node { node + length pieces.now < 2 ^ 32 + from }
-    requires names { length names.old + length pieces.now < 2 ^ 32 + from }
+    requires can { CanRead pieces.now names.old from node }
     ensures tree { MatchResult result (λ r. ReadsOf simple_seen SimpleStatement 8 (lexemes pieces.now) names.new from node r)
         (λ f. Faults SimpleStatement 8 (lexemes pieces.now) names.old names.new from f) }
     ensures grows { Grows names.old names.new }
-    ensures further { IfOk result (λ r. from < r.end) }
-    ensures within { IfOk result (λ r. r.end ≤ length pieces.now) }
-    ensures node { IfOk result (λ r. r.node + from ≤ node + r.end) }
-    ensures names { IfOk result (λ r. length names.new + from ≤ length names.old + r.end) }
+    ensures went { IfOk result (λ r. Went pieces.now names.old names.new from node r.end r.node) }
 {
     if key_at(pieces, from, Keyword::Var).is_some() {
         let variable = var(alloc, pieces, names, from, node)?;
@@ -81,16 +77,11 @@ pub fn update(
     from: usize,
     node: u32,
 ) -> Result<Read<Update>, Fault>
-    requires within { from ≤ length pieces.now }
-    requires node { node + length pieces.now < 2 ^ 32 + from }
-    requires names { length names.old + length pieces.now < 2 ^ 32 + from }
+    requires can { CanRead pieces.now names.old from node }
     ensures tree { MatchResult result (λ r. ReadsOf update_seen UpdateOf 7 (lexemes pieces.now) names.new from node r)
         (λ f. Faults UpdateOf 7 (lexemes pieces.now) names.old names.new from f) }
     ensures grows { Grows names.old names.new }
-    ensures further { IfOk result (λ r. from < r.end) }
-    ensures within { IfOk result (λ r. r.end ≤ length pieces.now) }
-    ensures node { IfOk result (λ r. r.node + from ≤ node + r.end) }
-    ensures names { IfOk result (λ r. length names.new + from ≤ length names.old + r.end) }
+    ensures went { IfOk result (λ r. Went pieces.now names.old names.new from node r.end r.node) }
 {
     if let Some(underscore) = mark_at(pieces, from, Sign::Underscore) {
         return phony(alloc, pieces, names, from, node, underscore);
@@ -116,16 +107,11 @@ fn phony(
     underscore: Place,
 ) -> Result<Read<Update>, Fault>
     requires stands { slice_get (lexemes pieces.now) from ≡ Some (Mark sign_.Underscore underscore) }
-    requires within { from ≤ length pieces.now }
-    requires node { node + length pieces.now < 2 ^ 32 + from }
-    requires names { length names.old + length pieces.now < 2 ^ 32 + from }
+    requires can { CanRead pieces.now names.old from node }
     ensures tree { MatchResult result (λ r. ReadsOf update_seen UpdateOf 7 (lexemes pieces.now) names.new from node r)
         (λ f. Faults UpdateOf 7 (lexemes pieces.now) names.old names.new from f) }
     ensures grows { Grows names.old names.new }
-    ensures further { IfOk result (λ r. from < r.end) }
-    ensures within { IfOk result (λ r. r.end ≤ length pieces.now) }
-    ensures node { IfOk result (λ r. r.node + from ≤ node + r.end) }
-    ensures names { IfOk result (λ r. length names.new + from ≤ length names.old + r.end) }
+    ensures went { IfOk result (λ r. Went pieces.now names.old names.new from node r.end r.node) }
 {
     let Some(at) = mark_at(pieces, from + 1, Sign::Equal) else {
         return Err(Fault::Unexpected(from + 1));
@@ -151,16 +137,11 @@ fn changed(
     node: u32,
 ) -> Result<Read<Update>, Fault>
     requires other { NoOther (lexemes pieces.now) from }
-    requires within { from ≤ length pieces.now }
-    requires node { node + length pieces.now < 2 ^ 32 + from }
-    requires names { length names.old + length pieces.now < 2 ^ 32 + from }
+    requires can { CanRead pieces.now names.old from node }
     ensures tree { MatchResult result (λ r. ReadsOf update_seen UpdateOf 7 (lexemes pieces.now) names.new from node r)
         (λ f. Faults UpdateOf 7 (lexemes pieces.now) names.old names.new from f) }
     ensures grows { Grows names.old names.new }
-    ensures further { IfOk result (λ r. from < r.end) }
-    ensures within { IfOk result (λ r. r.end ≤ length pieces.now) }
-    ensures node { IfOk result (λ r. r.node + from ≤ node + r.end) }
-    ensures names { IfOk result (λ r. length names.new + from ≤ length names.old + r.end) }
+    ensures went { IfOk result (λ r. Went pieces.now names.old names.new from node r.end r.node) }
 {
     let target = left_side(alloc, pieces, names, from, node)?;
     if let Some(at) = mark_at(pieces, target.end, Sign::PlusPlus) {

@@ -14,7 +14,7 @@ returns-in_err-attr-clause-tree c = errs _ c.in_err-attr.field-0.0 _ _ c.from_re
     (λ to f. attributes_fail c.attrs.invariant.stage _ c.in-Some.ensures.value f) c.in_err-attr.ensures.tree)
 
 pub attrs-preserved : goal.attrs-preserved
-attrs-preserved c = attr_turn c.attrs.invariant c.push.new.items c.in_ok-attr.ensures.grows c.in-Some.ensures.value c.in_ok-attr.ensures.tree c.in_ok-push.ensures c.in_ok-attr.ensures.further c.in_ok-attr.ensures.within c.in_ok-attr.ensures.node c.in_ok-attr.ensures.names
+attrs-preserved c = attr_turn c.attrs.invariant c.push.new.items c.in_ok-attr.ensures.grows c.in-Some.ensures.value c.in_ok-attr.ensures.tree c.in_ok-push.ensures c.in_ok-attr.ensures.went.further c.in_ok-attr.ensures.went.within c.in_ok-attr.ensures.went.numbered c.in_ok-attr.ensures.went.few
 
 pub returns-clause-tree : goal.returns-clause-tree
 returns-clause-tree c = attrs_tree c.attrs.invariant c.in_default.ensures.value
@@ -25,11 +25,11 @@ returns-in_err-attr-clause-grows c = grows_trans _ _ _ c.attrs.invariant.grows c
 pub returns-in_err-push-clause-grows : goal.returns-in_err-push-clause-grows
 returns-in_err-push-clause-grows c = grows_trans _ _ _ c.attrs.invariant.grows c.in_ok-attr.ensures.grows
 
-pub attribute-requires-clause-within : goal.attribute-requires-clause-within
-attribute-requires-clause-within c = omega (arith, c.attrs.invariant.within)
-
-pub attribute-requires-clause-node : goal.attribute-requires-clause-node
-attribute-requires-clause-node c = omega (arith, c.attrs.invariant.numbered)
-
-pub attribute-requires-clause-names : goal.attribute-requires-clause-names
-attribute-requires-clause-names c = omega (arith, c.attrs.invariant.few)
+pub attribute-requires : goal.attribute-requires
+attribute-requires c = record {
+  can = record {
+    within = omega (arith, c.attrs.invariant.within);
+    numbered = omega (arith, c.attrs.invariant.numbered);
+    few = omega (arith, c.attrs.invariant.few);
+  };
+}

@@ -13,19 +13,15 @@ pub returns-in_err-list-clause-tree : goal.returns-in_err-list-clause-tree
 returns-in_err-list-clause-tree c = errs _ c.in_err-list.field-0.0 _ _ c.from_residual.ensures.1
     (fault_in AttrArguments Arguments 0 0 (lexemes c.args.pieces.now) c.args.names.now c.args.names.now _ c.args.from (c.args.from + 1) (omega arith) (Mark sign.Open)
     (_, c.in-Some.ensures.value) (omega arith) c.in_err-list.field-0.0
-    (λ to f. opened_fails arguments_opens (omega arith) (within c.args.pieces.now c.args.from c.requires.within) (λ p. refl) _ c.in-Some.ensures.value f) c.in_err-list.ensures.tree)
+    (λ to f. opened_fails arguments_opens (omega arith) (within c.args.pieces.now c.args.from c.requires.can.within) (λ p. refl) _ c.in-Some.ensures.value f) c.in_err-list.ensures.tree)
 
 pub returns-clause-tree : goal.returns-clause-tree
-returns-clause-tree c = arguments_tree (within c.args.pieces.now c.args.from c.requires.within) c.in-Some.ensures.value (omega (arith, c.in_ok-list.ensures.further)) c.in_ok-list.ensures.tree
+returns-clause-tree c = arguments_tree (within c.args.pieces.now c.args.from c.requires.can.within) c.in-Some.ensures.value (omega (arith, c.in_ok-list.ensures.went.further)) c.in_ok-list.ensures.tree
 
-pub returns-clause-further : goal.returns-clause-further
-returns-clause-further c = omega (arith, c.in_ok-list.ensures.further)
-
-pub returns-clause-within : goal.returns-clause-within
-returns-clause-within c = omega (arith, c.in_ok-list.ensures.within)
-
-pub returns-clause-node : goal.returns-clause-node
-returns-clause-node c = omega (arith, c.in_ok-list.ensures.node)
-
-pub returns-clause-names : goal.returns-clause-names
-returns-clause-names c = omega (arith, c.in_ok-list.ensures.names)
+pub returns-clause-went : goal.returns-clause-went
+returns-clause-went c = record {
+  further = omega (arith, c.in_ok-list.ensures.went.further);
+  within = omega (arith, c.in_ok-list.ensures.went.within);
+  numbered = omega (arith, c.in_ok-list.ensures.went.numbered);
+  few = omega (arith, c.in_ok-list.ensures.went.few);
+}

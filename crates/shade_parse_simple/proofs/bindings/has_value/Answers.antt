@@ -10,12 +10,12 @@ use Rattle.shade_parse_simple.proofs.bindings.has_value.Goals as goal
 
 pub returns-in_default-clause-tree : goal.returns-in_default-clause-tree
 returns-in_default-clause-tree c = fails_here HasValue 7 (lexemes c.args.pieces.now) c.args.names.now c.args.names.now c.args.from c.args.from (omega arith)
-    (opened_none has_value_opens {m = 7} (omega arith) (within c.args.pieces.now c.args.from c.requires.within) expression_closes c.in_default.ensures.value)
+    (opened_none has_value_opens {m = 7} (omega arith) (within c.args.pieces.now c.args.from c.requires.can.within) expression_closes c.in_default.ensures.value)
 
 pub returns-in_err-value-clause-tree : goal.returns-in_err-value-clause-tree
 returns-in_err-value-clause-tree c = errs _ c.in_err-value.field-0.0 _ _ c.from_residual.ensures.1
     (fault_on HasValue Expression 7 7 (lexemes c.args.pieces.now) c.args.names.now c.args.names.now _ c.args.from (c.args.from + 1) c.in_err-value.field-0.0 (omega arith)
-    (λ to f. opened_fails has_value_opens (omega arith) (within c.args.pieces.now c.args.from c.requires.within) (λ p. refl) _ c.in-Some.ensures.value f) c.in_err-value.ensures.tree)
+    (λ to f. opened_fails has_value_opens (omega arith) (within c.args.pieces.now c.args.from c.requires.can.within) (λ p. refl) _ c.in-Some.ensures.value f) c.in_err-value.ensures.tree)
 
 pub returns-clause-tree : goal.returns-clause-tree
-returns-clause-tree c = reads_on Expression 7 (c.args.from + 1) (λ g. opened_reads has_value_opens (omega arith) (within c.args.pieces.now c.args.from c.requires.within) (λ p. refl) _ c.in-Some.ensures.value g) (part_reads c.in_ok-value.ensures.tree)
+returns-clause-tree c = reads_on Expression 7 (c.args.from + 1) (λ g. opened_reads has_value_opens (omega arith) (within c.args.pieces.now c.args.from c.requires.can.within) (λ p. refl) _ c.in-Some.ensures.value g) (part_reads c.in_ok-value.ensures.tree)

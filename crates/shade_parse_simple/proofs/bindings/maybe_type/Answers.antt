@@ -15,4 +15,4 @@ returns-in_err-ty-clause-tree c = errs _ c.in_err-ty.field-0.0 _ _ c.from_residu
     (λ to f. opened_later of_type_opens (omega arith) type_closes _ c.in-Some.ensures.value f) c.in_err-ty.ensures.tree)
 
 pub returns-clause-tree : goal.returns-clause-tree
-returns-clause-tree c = part_there (_, c.in-Some.ensures.value) c.in_ok-ty.ensures.further c.in_ok-ty.ensures.tree
+returns-clause-tree c = part_there (_, c.in-Some.ensures.value) c.in_ok-ty.ensures.went.further c.in_ok-ty.ensures.tree

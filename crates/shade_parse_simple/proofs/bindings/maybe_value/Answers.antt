@@ -15,4 +15,4 @@ returns-in_err-value-clause-tree c = errs _ c.in_err-value.field-0.0 _ _ c.from_
     (λ to f. opened_later has_value_opens (omega arith) expression_closes _ c.in-Some.ensures.value f) c.in_err-value.ensures.tree)
 
 pub returns-clause-tree : goal.returns-clause-tree
-returns-clause-tree c = part_there (_, c.in-Some.ensures.value) c.in_ok-value.ensures.further c.in_ok-value.ensures.tree
+returns-clause-tree c = part_there (_, c.in-Some.ensures.value) c.in_ok-value.ensures.went.further c.in_ok-value.ensures.tree

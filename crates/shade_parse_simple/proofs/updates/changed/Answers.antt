@@ -14,68 +14,60 @@ use Rattle.shade_parse_simple.proofs.updates.changed.Goals as goal
 pub returns-in_err-target-clause-tree : goal.returns-in_err-target-clause-tree
 returns-in_err-target-clause-tree c = errs _ c.in_err-target.field-0.0 _ _ c.from_residual.ensures.1
     (fault_on UpdateOf LeftSide 7 2 (lexemes c.args.pieces.now) c.args.names.now c.args.names.now _ c.args.from c.args.from c.in_err-target.field-0.0 (omega arith)
-    (λ to f. left_fails (within c.args.pieces.now c.args.from c.requires.within) c.requires.other f) c.in_err-target.ensures.tree)
+    (λ to f. left_fails (within c.args.pieces.now c.args.from c.requires.can.within) c.requires.other f) c.in_err-target.ensures.tree)
 
 pub returns-in-Some-clause-tree : goal.returns-in-Some-clause-tree
-returns-in-Some-clause-tree c = up_tree (within c.args.pieces.now c.args.from c.requires.within) c.requires.other (part_reads c.in_ok-target.ensures.tree) c.in_ok-target.ensures.further c.in-Some.ensures.value
+returns-in-Some-clause-tree c = up_tree (within c.args.pieces.now c.args.from c.requires.can.within) c.requires.other (part_reads c.in_ok-target.ensures.tree) c.in_ok-target.ensures.went.further c.in-Some.ensures.value
 
 pub returns-in-Some-mark_at-clause-tree : goal.returns-in-Some-mark_at-clause-tree
-returns-in-Some-mark_at-clause-tree c = down_tree (within c.args.pieces.now c.args.from c.requires.within) c.requires.other (part_reads c.in_ok-target.ensures.tree) c.in_ok-target.ensures.further c.in_default.ensures.value c.in-Some-mark_at.ensures.value
+returns-in-Some-mark_at-clause-tree c = down_tree (within c.args.pieces.now c.args.from c.requires.can.within) c.requires.other (part_reads c.in_ok-target.ensures.tree) c.in_ok-target.ensures.went.further c.in_default.ensures.value c.in-Some-mark_at.ensures.value
 
 pub returns-in-Err-clause-tree : goal.returns-in-Err-clause-tree
 returns-in-Err-clause-tree c = errs _ c.in-Err.fault _ _ c.refuse.ensures
-    (fault_plain UpdateOf Assigning 7 0 (lexemes c.args.pieces.now) c.args.names.now _ c.args.from c.in_ok-target.target.end c.in-Err.fault (omega (arith, c.in_ok-target.ensures.names))
-    (within c.args.pieces.now c.in_ok-target.target.end c.in_ok-target.ensures.within)
-    (λ to f. sign_fails (within c.args.pieces.now c.args.from c.requires.within) c.requires.other c.in_ok-target.ensures.tree.reads c.in_ok-target.ensures.further
+    (fault_plain UpdateOf Assigning 7 0 (lexemes c.args.pieces.now) c.args.names.now _ c.args.from c.in_ok-target.target.end c.in-Err.fault (omega (arith, c.in_ok-target.ensures.went.few))
+    (within c.args.pieces.now c.in_ok-target.target.end c.in_ok-target.ensures.went.within)
+    (λ to f. sign_fails (within c.args.pieces.now c.args.from c.requires.can.within) c.requires.other c.in_ok-target.ensures.tree.reads c.in_ok-target.ensures.went.further
     c.in_default.ensures.value c.in_default-mark_at.ensures.value f) c.in-Err.ensures.sign)
 
 pub returns-in-Err-expression-clause-tree : goal.returns-in-Err-expression-clause-tree
 returns-in-Err-expression-clause-tree c = errs _ c.in-Err-expression.fault _ _ c.refuse-in-Err-expression.ensures
     (fault_on UpdateOf Expression 7 7 (lexemes c.args.pieces.now) c.args.names.now c.left_side.new.names _ c.args.from c.in-Ok.found.2 c.in-Err-expression.fault
-    (omega (arith, c.in_ok-target.ensures.names, c.in-Ok.ensures.further))
-    (λ to f. value_fails (within c.args.pieces.now c.args.from c.requires.within) c.requires.other c.in_ok-target.ensures.tree.reads c.in_ok-target.ensures.further
+    (omega (arith, c.in_ok-target.ensures.went.few, c.in-Ok.ensures.further))
+    (λ to f. value_fails (within c.args.pieces.now c.args.from c.requires.can.within) c.requires.other c.in_ok-target.ensures.tree.reads c.in_ok-target.ensures.went.further
     c.in_default.ensures.value c.in_default-mark_at.ensures.value c.in-Ok.ensures.sign f) c.in-Err-expression.ensures.tree)
 
 pub returns-clause-tree : goal.returns-clause-tree
-returns-clause-tree c = set_tree (within c.args.pieces.now c.args.from c.requires.within) c.requires.other
-    (widen expr_keeps c.in-Ok-expression.ensures.grows (part_reads c.in_ok-target.ensures.tree)) c.in_ok-target.ensures.further c.in_default.ensures.value c.in_default-mark_at.ensures.value
+returns-clause-tree c = set_tree (within c.args.pieces.now c.args.from c.requires.can.within) c.requires.other
+    (widen expr_keeps c.in-Ok-expression.ensures.grows (part_reads c.in_ok-target.ensures.tree)) c.in_ok-target.ensures.went.further c.in_default.ensures.value c.in_default-mark_at.ensures.value
     c.in-Ok.ensures.sign (part_reads c.in-Ok-expression.ensures.tree) c.assigned.ensures
 
-pub returns-in-Some-clause-further : goal.returns-in-Some-clause-further
-returns-in-Some-clause-further c = omega (arith, c.in_ok-target.ensures.further)
+pub returns-in-Some-clause-went : goal.returns-in-Some-clause-went
+returns-in-Some-clause-went c = record {
+  further = omega (arith, c.in_ok-target.ensures.went.further);
+  within = omega (arith, c.in-Some.ensures.within);
+  numbered = omega (arith, c.in_ok-target.ensures.went.numbered);
+  few = omega (arith, c.in_ok-target.ensures.went.few);
+}
 
-pub returns-in-Some-clause-within : goal.returns-in-Some-clause-within
-returns-in-Some-clause-within c = omega (arith, c.in-Some.ensures.within)
-
-pub returns-in-Some-clause-node : goal.returns-in-Some-clause-node
-returns-in-Some-clause-node c = omega (arith, c.in_ok-target.ensures.node)
-
-pub returns-in-Some-clause-names : goal.returns-in-Some-clause-names
-returns-in-Some-clause-names c = omega (arith, c.in_ok-target.ensures.names)
-
-pub returns-in-Some-mark_at-clause-further : goal.returns-in-Some-mark_at-clause-further
-returns-in-Some-mark_at-clause-further c = omega (arith, c.in_ok-target.ensures.further)
-
-pub returns-in-Some-mark_at-clause-within : goal.returns-in-Some-mark_at-clause-within
-returns-in-Some-mark_at-clause-within c = omega (arith, c.in-Some-mark_at.ensures.within)
-
-pub returns-in-Some-mark_at-clause-node : goal.returns-in-Some-mark_at-clause-node
-returns-in-Some-mark_at-clause-node c = omega (arith, c.in_ok-target.ensures.node)
-
-pub returns-in-Some-mark_at-clause-names : goal.returns-in-Some-mark_at-clause-names
-returns-in-Some-mark_at-clause-names c = omega (arith, c.in_ok-target.ensures.names)
+pub returns-in-Some-mark_at-clause-went : goal.returns-in-Some-mark_at-clause-went
+returns-in-Some-mark_at-clause-went c = record {
+  further = omega (arith, c.in_ok-target.ensures.went.further);
+  within = omega (arith, c.in-Some-mark_at.ensures.within);
+  numbered = omega (arith, c.in_ok-target.ensures.went.numbered);
+  few = omega (arith, c.in_ok-target.ensures.went.few);
+}
 
 pub assigning-requires : goal.assigning-requires
-assigning-requires c = omega (arith, c.in_ok-target.ensures.within)
+assigning-requires c = omega (arith, c.in_ok-target.ensures.went.within)
 
-pub expression-requires-clause-within : goal.expression-requires-clause-within
-expression-requires-clause-within c = omega (arith, c.in-Ok.ensures.further, c.in-Ok.ensures.within)
-
-pub expression-requires-clause-node : goal.expression-requires-clause-node
-expression-requires-clause-node c = omega (arith, c.in_ok-target.ensures.node, c.in-Ok.ensures.further, c.in-Ok.ensures.within)
-
-pub expression-requires-clause-names : goal.expression-requires-clause-names
-expression-requires-clause-names c = omega (arith, c.in_ok-target.ensures.names, c.in-Ok.ensures.further, c.in-Ok.ensures.within)
+pub expression-requires : goal.expression-requires
+expression-requires c = record {
+  can = record {
+    within = omega (arith, c.in-Ok.ensures.further, c.in-Ok.ensures.within);
+    numbered = omega (arith, c.in_ok-target.ensures.went.numbered, c.in-Ok.ensures.further, c.in-Ok.ensures.within);
+    few = omega (arith, c.in_ok-target.ensures.went.few, c.in-Ok.ensures.further, c.in-Ok.ensures.within);
+  };
+}
 
 pub returns-in-Err-expression-clause-grows : goal.returns-in-Err-expression-clause-grows
 returns-in-Err-expression-clause-grows c = grows_trans _ _ _ c.in_ok-target.ensures.grows c.in-Err-expression.ensures.grows
@@ -83,14 +75,10 @@ returns-in-Err-expression-clause-grows c = grows_trans _ _ _ c.in_ok-target.ensu
 pub returns-clause-grows : goal.returns-clause-grows
 returns-clause-grows c = grows_trans _ _ _ c.in_ok-target.ensures.grows c.in-Ok-expression.ensures.grows
 
-pub returns-clause-further : goal.returns-clause-further
-returns-clause-further c = omega (arith, c.in_ok-target.ensures.further, c.in-Ok.ensures.further, c.in-Ok.ensures.within, c.in-Ok-expression.ensures.further)
-
-pub returns-clause-within : goal.returns-clause-within
-returns-clause-within c = omega (arith, c.in-Ok.ensures.further, c.in-Ok-expression.ensures.within)
-
-pub returns-clause-node : goal.returns-clause-node
-returns-clause-node c = omega (arith, c.in_ok-target.ensures.node, c.in-Ok.ensures.further, c.in-Ok.ensures.within, c.in-Ok-expression.ensures.node)
-
-pub returns-clause-names : goal.returns-clause-names
-returns-clause-names c = omega (arith, c.in_ok-target.ensures.names, c.in-Ok.ensures.further, c.in-Ok.ensures.within, c.in-Ok-expression.ensures.names)
+pub returns-clause-went : goal.returns-clause-went
+returns-clause-went c = record {
+  further = omega (arith, c.in_ok-target.ensures.went.further, c.in-Ok.ensures.further, c.in-Ok.ensures.within, c.in-Ok-expression.ensures.went.further);
+  within = omega (arith, c.in-Ok.ensures.further, c.in-Ok-expression.ensures.went.within);
+  numbered = omega (arith, c.in_ok-target.ensures.went.numbered, c.in-Ok.ensures.further, c.in-Ok.ensures.within, c.in-Ok-expression.ensures.went.numbered);
+  few = omega (arith, c.in_ok-target.ensures.went.few, c.in-Ok.ensures.further, c.in-Ok.ensures.within, c.in-Ok-expression.ensures.went.few);
+}

@@ -12,19 +12,15 @@ use Rattle.shade_parse_simple.proofs.updates.update.Goals as goal
 pub returns-in_err-callee-clause-tree : goal.returns-in_err-callee-clause-tree
 returns-in_err-callee-clause-tree c = errs _ c.in_err-callee.field-0.0 _ _ c.from_residual.ensures.1
     (fault_on UpdateOf Call 7 1 (lexemes c.args.pieces.now) c.args.names.now c.args.names.now _ c.args.from c.args.from c.in_err-callee.field-0.0 (omega arith)
-    (λ to f. alone_fails (within c.args.pieces.now c.args.from c.requires.within) (c.if-not-begins_call.ensures.0 refl) f) c.in_err-callee.ensures.tree)
+    (λ to f. alone_fails (within c.args.pieces.now c.args.from c.requires.can.within) (c.if-not-begins_call.ensures.0 refl) f) c.in_err-callee.ensures.tree)
 
 pub returns-clause-tree : goal.returns-clause-tree
-returns-clause-tree c = call_tree (within c.args.pieces.now c.args.from c.requires.within) (c.if-not-begins_call.ensures.0 refl) c.in_ok-callee.ensures.further (part_reads c.in_ok-callee.ensures.tree)
+returns-clause-tree c = call_tree (within c.args.pieces.now c.args.from c.requires.can.within) (c.if-not-begins_call.ensures.0 refl) c.in_ok-callee.ensures.went.further (part_reads c.in_ok-callee.ensures.tree)
 
-pub returns-clause-further : goal.returns-clause-further
-returns-clause-further c = omega (arith, c.in_ok-callee.ensures.further)
-
-pub returns-clause-within : goal.returns-clause-within
-returns-clause-within c = omega (arith, c.in_ok-callee.ensures.within)
-
-pub returns-clause-node : goal.returns-clause-node
-returns-clause-node c = omega (arith, c.in_ok-callee.ensures.node)
-
-pub returns-clause-names : goal.returns-clause-names
-returns-clause-names c = omega (arith, c.in_ok-callee.ensures.names)
+pub returns-clause-went : goal.returns-clause-went
+returns-clause-went c = record {
+  further = omega (arith, c.in_ok-callee.ensures.went.further);
+  within = omega (arith, c.in_ok-callee.ensures.went.within);
+  numbered = omega (arith, c.in_ok-callee.ensures.went.numbered);
+  few = omega (arith, c.in_ok-callee.ensures.went.few);
+}
