@@ -1,0 +1,3 @@
+pub mod Words
+pub mod Filters
+pub mod Events
