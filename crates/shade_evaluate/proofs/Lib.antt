@@ -1,0 +1,4 @@
+pub mod FaultLaws
+pub mod FitLaws
+pub mod ProductLaws
+pub mod TurnLaws

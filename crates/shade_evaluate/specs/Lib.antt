@@ -1,0 +1,3 @@
+pub mod Evaluate
+pub mod Fits
+pub mod Misuse
