@@ -10,7 +10,7 @@ use shade_ast::{
     Arm, Attr, Binding, Block, BreakIf, Clause, Continuing, Expr, Named, Names, Otherwise,
     Selector, Simple, Stmt, StmtKind, Update, Var, VarSpace,
 };
-use sqlite_items::Items;
+use sqlite_items::{Boxed, Items};
 use std::alloc::AllocError;
 
 fn add_name(name: Named, out: &mut Items<Event>) -> Result<(), AllocError>
@@ -128,19 +128,19 @@ fn add_leave(leave: &Option<BreakIf>, out: &mut Items<Event>) -> Result<(), Allo
 
 /// Adds what stands in the parentheses of a `for`.
 fn add_header(
-    initial: &Option<Simple>,
+    initial: &Option<Boxed<Simple>>,
     condition: &Option<Expr>,
-    update: &Option<Update>,
+    update: &Option<Boxed<Update>>,
     out: &mut Items<Event>,
 ) -> Result<(), AllocError>
     ensures { OnOk result (out.new ≡ out.old ++ header initial.now condition.now update.now) }
 {
     if let Some(initial) = initial {
-        add_simple(initial, out)?;
+        add_simple(initial.get(), out)?;
     }
     add_maybe(condition, out)?;
     match update {
-        Some(update) => add_update(update, out),
+        Some(update) => add_update(update.get(), out),
         None => Ok(()),
     }
 }
@@ -282,7 +282,7 @@ fn add_stmt(names: &Names, s: &Stmt, out: &mut Items<Event>) -> Result<(), Alloc
             out.push(Event::Node(s.node))
         }
         StmtKind::Simple(simple) => {
-            add_simple(simple, out)?;
+            add_simple(simple.get(), out)?;
             out.push(Event::Node(s.node))
         }
         StmtKind::Return(value) => {
@@ -414,13 +414,13 @@ fn add_clause(names: &Names, clause: &Clause, out: &mut Items<Event>) -> Result<
 #[cycle(statements)]
 fn add_continuing(
     names: &Names,
-    continuing: &Option<Continuing>,
+    continuing: &Option<Boxed<Continuing>>,
     out: &mut Items<Event>,
 ) -> Result<(), AllocError>
     ensures { OnOk result (out.new ≡ out.old ++ maybe (continuing_events names.now) continuing.now) }
 {
     match continuing {
-        Some(part) => add_part(names, part, out),
+        Some(part) => add_part(names, part.get(), out),
         None => Ok(()),
     }
 }
@@ -438,13 +438,13 @@ fn add_part(names: &Names, part: &Continuing, out: &mut Items<Event>) -> Result<
 #[cycle(statements)]
 fn add_otherwise(
     names: &Names,
-    otherwise: &Option<Otherwise>,
+    otherwise: &Option<Boxed<Otherwise>>,
     out: &mut Items<Event>,
 ) -> Result<(), AllocError>
     ensures { OnOk result (out.new ≡ out.old ++ maybe (otherwise_events names.now) otherwise.now) }
 {
     match otherwise {
-        Some(otherwise) => add_block(names, &otherwise.body, out),
+        Some(otherwise) => add_block(names, &otherwise.get().body, out),
         None => Ok(()),
     }
 }
