@@ -1,6 +1,6 @@
 //! Statements that hold no others, and the parts of others that hold none.
 
-ghost use Rattle.std.specs.Prelude.{◌≡◌, ◌+◌, ◌<◌, ◌≤◌, ◌^◌, length, IfOk, MatchResult};
+ghost use Rattle.std.specs.Prelude.{◌≡◌, ◌+◌, ◌<◌, IfOk, MatchResult};
 ghost use Rattle.shade_ast.specs.Names.{Grows};
 ghost use Rattle.shade_ast.specs.Repeats.{Listed};
 ghost use Rattle.shade_ast.specs.Statements.{Selects};
@@ -8,6 +8,7 @@ ghost use Rattle.shade_parse_stmt.specs.Follows.{Above, Anything, Selected, Read
 ghost use Rattle.shade_parse_stmt.specs.StatementParts.{stmt_seen, value_seen, maybe_simple_seen, maybe_update_seen, for_head_seen, ForHead, leave_seen, selector_seen, selectors_seen, ValueEnd, UntilValue, UntilSimple, UntilUpdate, Leaves, SimpleEnd, Plain};
 ghost use Rattle.shade_parse_simple.specs.Readings.{expr_seen};
 ghost use Rattle.shade_cursor.specs.Shown.{lexemes};
+ghost use Rattle.shade_parse_expr.specs.Reading.{CanRead, Went};
 
 use crate::builds::{push_selector, simple_place, statement_of};
 use crate::hold::before;
@@ -30,16 +31,11 @@ pub fn value_until(
     from: usize,
     node: u32,
 ) -> Result<Read<Option<Expr>>, Fault>
-    requires within { from ≤ length pieces.now }
-    requires node { node + length pieces.now < 2 ^ 32 + from }
-    requires names { length names.old + length pieces.now < 2 ^ 32 + from }
+    requires can { CanRead pieces.now names.old from node }
     ensures tree { MatchResult result (λ r. ReadsOfBy value_seen UntilValue Anything (lexemes pieces.now) names.new from node r)
         (λ f. FaultsBy UntilValue Anything (lexemes pieces.now) names.old names.new from f) }
     ensures grows { Grows names.old names.new }
-    ensures further { IfOk result (λ r. from < r.end) }
-    ensures within { IfOk result (λ r. r.end ≤ length pieces.now) }
-    ensures node { IfOk result (λ r. r.node + from ≤ node + r.end) }
-    ensures names { IfOk result (λ r. length names.new + from ≤ length names.old + r.end) }
+    ensures went { IfOk result (λ r. Went pieces.now names.old names.new from node r.end r.node) }
 {
     if is_mark(pieces, from, Sign::Semicolon) {
         return Ok(Read {
@@ -67,16 +63,12 @@ pub fn value_end(
     from: usize,
     node: u32,
 ) -> Result<Read<Expr>, Fault>
-    requires within { from ≤ length pieces.now }
-    requires node { node + length pieces.now < 2 ^ 32 + from }
-    requires names { length names.old + length pieces.now < 2 ^ 32 + from }
+    requires can { CanRead pieces.now names.old from node }
     ensures tree { MatchResult result (λ r. ReadsOfBy expr_seen ValueEnd Anything (lexemes pieces.now) names.new from node r)
         (λ f. FaultsBy ValueEnd Anything (lexemes pieces.now) names.old names.new from f) }
     ensures grows { Grows names.old names.new }
-    ensures further { IfOk result (λ r. from < r.end) }
-    ensures within { IfOk result (λ r. r.end ≤ length pieces.now) }
+    ensures went { IfOk result (λ r. Went pieces.now names.old names.new from node r.end r.node) }
     ensures node { IfOk result (λ r. r.node + from < node + r.end) }
-    ensures names { IfOk result (λ r. length names.new + from ≤ length names.old + r.end) }
 {
     let value = expression(alloc, pieces, names, from, node)?;
     let Some(_) = mark_at(pieces, value.end, Sign::Semicolon) else {
@@ -97,16 +89,11 @@ pub fn simple_until(
     from: usize,
     node: u32,
 ) -> Result<Read<Option<Simple>>, Fault>
-    requires within { from ≤ length pieces.now }
-    requires node { node + length pieces.now < 2 ^ 32 + from }
-    requires names { length names.old + length pieces.now < 2 ^ 32 + from }
+    requires can { CanRead pieces.now names.old from node }
     ensures tree { MatchResult result (λ r. ReadsOfBy maybe_simple_seen UntilSimple Anything (lexemes pieces.now) names.new from node r)
         (λ f. FaultsBy UntilSimple Anything (lexemes pieces.now) names.old names.new from f) }
     ensures grows { Grows names.old names.new }
-    ensures further { IfOk result (λ r. from < r.end) }
-    ensures within { IfOk result (λ r. r.end ≤ length pieces.now) }
-    ensures node { IfOk result (λ r. r.node + from ≤ node + r.end) }
-    ensures names { IfOk result (λ r. length names.new + from ≤ length names.old + r.end) }
+    ensures went { IfOk result (λ r. Went pieces.now names.old names.new from node r.end r.node) }
 {
     if is_mark(pieces, from, Sign::Semicolon) {
         return Ok(Read {
@@ -132,16 +119,11 @@ pub fn update_until(
     from: usize,
     node: u32,
 ) -> Result<Read<Option<Update>>, Fault>
-    requires within { from ≤ length pieces.now }
-    requires node { node + length pieces.now < 2 ^ 32 + from }
-    requires names { length names.old + length pieces.now < 2 ^ 32 + from }
+    requires can { CanRead pieces.now names.old from node }
     ensures tree { MatchResult result (λ r. ReadsOfBy maybe_update_seen UntilUpdate Anything (lexemes pieces.now) names.new from node r)
         (λ f. FaultsBy UntilUpdate Anything (lexemes pieces.now) names.old names.new from f) }
     ensures grows { Grows names.old names.new }
-    ensures further { IfOk result (λ r. from < r.end) }
-    ensures within { IfOk result (λ r. r.end ≤ length pieces.now) }
-    ensures node { IfOk result (λ r. r.node + from ≤ node + r.end) }
-    ensures names { IfOk result (λ r. length names.new + from ≤ length names.old + r.end) }
+    ensures went { IfOk result (λ r. Went pieces.now names.old names.new from node r.end r.node) }
 {
     if is_mark(pieces, from, Sign::Close) {
         return Ok(Read {
@@ -167,16 +149,11 @@ pub fn leave(
     from: usize,
     node: u32,
 ) -> Result<Read<Leave>, Fault>
-    requires within { from ≤ length pieces.now }
-    requires node { node + length pieces.now < 2 ^ 32 + from }
-    requires names { length names.old + length pieces.now < 2 ^ 32 + from }
+    requires can { CanRead pieces.now names.old from node }
     ensures tree { MatchResult result (λ r. ReadsOfBy leave_seen Leaves Anything (lexemes pieces.now) names.new from node r)
         (λ f. FaultsBy Leaves Anything (lexemes pieces.now) names.old names.new from f) }
     ensures grows { Grows names.old names.new }
-    ensures further { IfOk result (λ r. from < r.end) }
-    ensures within { IfOk result (λ r. r.end ≤ length pieces.now) }
-    ensures node { IfOk result (λ r. r.node + from ≤ node + r.end) }
-    ensures names { IfOk result (λ r. length names.new + from ≤ length names.old + r.end) }
+    ensures went { IfOk result (λ r. Went pieces.now names.old names.new from node r.end r.node) }
 {
     let condition = value_end(alloc, pieces, names, from, node)?;
     let Some(end) = mark_at(pieces, condition.end, Sign::CloseBrace) else {
@@ -200,16 +177,11 @@ fn simple_end(
     from: usize,
     node: u32,
 ) -> Result<Read<Stmt>, Fault>
-    requires within { from ≤ length pieces.now }
-    requires node { node + length pieces.now < 2 ^ 32 + from }
-    requires names { length names.old + length pieces.now < 2 ^ 32 + from }
+    requires can { CanRead pieces.now names.old from node }
     ensures tree { MatchResult result (λ r. ReadsOfBy stmt_seen SimpleEnd Anything (lexemes pieces.now) names.new from node r)
         (λ f. FaultsBy SimpleEnd Anything (lexemes pieces.now) names.old names.new from f) }
     ensures grows { Grows names.old names.new }
-    ensures further { IfOk result (λ r. from < r.end) }
-    ensures within { IfOk result (λ r. r.end ≤ length pieces.now) }
-    ensures node { IfOk result (λ r. r.node + from ≤ node + r.end) }
-    ensures names { IfOk result (λ r. length names.new + from ≤ length names.old + r.end) }
+    ensures went { IfOk result (λ r. Went pieces.now names.old names.new from node r.end r.node) }
 {
     let part = simple(alloc, pieces, names, from, node)?;
     let whole = before(pieces, part, Sign::Semicolon)?;
@@ -225,16 +197,11 @@ pub fn plain(
     from: usize,
     node: u32,
 ) -> Result<Read<Stmt>, Fault>
-    requires within { from ≤ length pieces.now }
-    requires node { node + length pieces.now < 2 ^ 32 + from }
-    requires names { length names.old + length pieces.now < 2 ^ 32 + from }
+    requires can { CanRead pieces.now names.old from node }
     ensures tree { MatchResult result (λ r. ReadsOfBy stmt_seen Plain Anything (lexemes pieces.now) names.new from node r)
         (λ f. FaultsBy Plain Anything (lexemes pieces.now) names.old names.new from f) }
     ensures grows { Grows names.old names.new }
-    ensures further { IfOk result (λ r. from < r.end) }
-    ensures within { IfOk result (λ r. r.end ≤ length pieces.now) }
-    ensures node { IfOk result (λ r. r.node + from ≤ node + r.end) }
-    ensures names { IfOk result (λ r. length names.new + from ≤ length names.old + r.end) }
+    ensures went { IfOk result (λ r. Went pieces.now names.old names.new from node r.end r.node) }
 {
     if let Some(place) = mark_at(pieces, from, Sign::Semicolon) {
         return Ok(statement_of(StmtKind::Empty, place, from + 1, node));
@@ -270,17 +237,12 @@ fn value_behind<K: Drop>(
     node: u32,
     kept: K,
 ) -> Result<(K, Read<Option<Expr>>), Fault>
-    requires within { from ≤ length pieces.now }
-    requires node { node + length pieces.now < 2 ^ 32 + from }
-    requires names { length names.old + length pieces.now < 2 ^ 32 + from }
+    requires can { CanRead pieces.now names.old from node }
     ensures tree { MatchResult result (λ r. ReadsOfBy value_seen UntilValue Anything (lexemes pieces.now) names.new from node r.1)
         (λ f. FaultsBy UntilValue Anything (lexemes pieces.now) names.old names.new from f) }
     ensures kept { IfOk result (λ r. r.0 ≡ kept) }
     ensures grows { Grows names.old names.new }
-    ensures further { IfOk result (λ r. from < r.1.end) }
-    ensures within { IfOk result (λ r. r.1.end ≤ length pieces.now) }
-    ensures node { IfOk result (λ r. r.1.node + from ≤ node + r.1.end) }
-    ensures names { IfOk result (λ r. length names.new + from ≤ length names.old + r.1.end) }
+    ensures went { IfOk result (λ r. Went pieces.now names.old names.new from node r.1.end r.1.node) }
 {
     match value_until(alloc, pieces, names, from, node) {
         Ok(read) => Ok((kept, read)),
@@ -297,17 +259,12 @@ fn update_behind<K: Drop>(
     node: u32,
     kept: K,
 ) -> Result<(K, Read<Option<Update>>), Fault>
-    requires within { from ≤ length pieces.now }
-    requires node { node + length pieces.now < 2 ^ 32 + from }
-    requires names { length names.old + length pieces.now < 2 ^ 32 + from }
+    requires can { CanRead pieces.now names.old from node }
     ensures tree { MatchResult result (λ r. ReadsOfBy maybe_update_seen UntilUpdate Anything (lexemes pieces.now) names.new from node r.1)
         (λ f. FaultsBy UntilUpdate Anything (lexemes pieces.now) names.old names.new from f) }
     ensures kept { IfOk result (λ r. r.0 ≡ kept) }
     ensures grows { Grows names.old names.new }
-    ensures further { IfOk result (λ r. from < r.1.end) }
-    ensures within { IfOk result (λ r. r.1.end ≤ length pieces.now) }
-    ensures node { IfOk result (λ r. r.1.node + from ≤ node + r.1.end) }
-    ensures names { IfOk result (λ r. length names.new + from ≤ length names.old + r.1.end) }
+    ensures went { IfOk result (λ r. Went pieces.now names.old names.new from node r.1.end r.1.node) }
 {
     match update_until(alloc, pieces, names, from, node) {
         Ok(read) => Ok((kept, read)),
@@ -323,16 +280,11 @@ pub fn for_header(
     from: usize,
     node: u32,
 ) -> Result<Read<ForHeader>, Fault>
-    requires within { from ≤ length pieces.now }
-    requires node { node + length pieces.now < 2 ^ 32 + from }
-    requires names { length names.old + length pieces.now < 2 ^ 32 + from }
+    requires can { CanRead pieces.now names.old from node }
     ensures tree { MatchResult result (λ r. ReadsOfBy for_head_seen ForHead Anything (lexemes pieces.now) names.new from node r)
         (λ f. FaultsBy ForHead Anything (lexemes pieces.now) names.old names.new from f) }
     ensures grows { Grows names.old names.new }
-    ensures further { IfOk result (λ r. from < r.end) }
-    ensures within { IfOk result (λ r. r.end ≤ length pieces.now) }
-    ensures node { IfOk result (λ r. r.node + from ≤ node + r.end) }
-    ensures names { IfOk result (λ r. length names.new + from ≤ length names.old + r.end) }
+    ensures went { IfOk result (λ r. Went pieces.now names.old names.new from node r.end r.node) }
 {
     if !is_mark(pieces, from, Sign::Open) {
         return Err(Fault::Unexpected(from));
@@ -367,16 +319,11 @@ fn selector(
     from: usize,
     node: u32,
 ) -> Result<Read<Selector>, Fault>
-    requires within { from ≤ length pieces.now }
-    requires node { node + length pieces.now < 2 ^ 32 + from }
-    requires names { length names.old + length pieces.now < 2 ^ 32 + from }
+    requires can { CanRead pieces.now names.old from node }
     ensures tree { MatchResult result (λ r. ReadsOfBy selector_seen Selects (Above 7) (lexemes pieces.now) names.new from node r)
         (λ f. FaultsBy Selects (Above 7) (lexemes pieces.now) names.old names.new from f) }
     ensures grows { Grows names.old names.new }
-    ensures further { IfOk result (λ r. from < r.end) }
-    ensures within { IfOk result (λ r. r.end ≤ length pieces.now) }
-    ensures node { IfOk result (λ r. r.node + from ≤ node + r.end) }
-    ensures names { IfOk result (λ r. length names.new + from ≤ length names.old + r.end) }
+    ensures went { IfOk result (λ r. Went pieces.now names.old names.new from node r.end r.node) }
 {
     if let Some(place) = key_at(pieces, from, Keyword::Default) {
         return Ok(Read {
@@ -401,16 +348,11 @@ pub fn selectors(
     from: usize,
     node: u32,
 ) -> Result<Read<Selectors>, Fault>
-    requires within { from ≤ length pieces.now }
-    requires node { node + length pieces.now < 2 ^ 32 + from }
-    requires names { length names.old + length pieces.now < 2 ^ 32 + from }
+    requires can { CanRead pieces.now names.old from node }
     ensures tree { MatchResult result (λ r. ReadsOfBy selectors_seen (Listed Selects) Selected (lexemes pieces.now) names.new from node r)
         (λ f. FaultsBy (Listed Selects) Selected (lexemes pieces.now) names.old names.new from f) }
     ensures grows { Grows names.old names.new }
-    ensures further { IfOk result (λ r. from < r.end) }
-    ensures within { IfOk result (λ r. r.end ≤ length pieces.now) }
-    ensures node { IfOk result (λ r. r.node + from ≤ node + r.end) }
-    ensures names { IfOk result (λ r. length names.new + from ≤ length names.old + r.end) }
+    ensures went { IfOk result (λ r. Went pieces.now names.old names.new from node r.end r.node) }
 {
     let mut items = Items::new(alloc);
     let mut at = from;

@@ -1,6 +1,6 @@
 //! Statements.
 
-ghost use Rattle.std.specs.Prelude.{◌≡◌, ◌+◌, ◌<◌, ◌≤◌, ◌^◌, length, IfOk, MatchResult};
+ghost use Rattle.std.specs.Prelude.{◌+◌, ◌<◌, IfOk, MatchResult};
 ghost use Rattle.shade_ast.specs.Names.{Grows};
 ghost use Rattle.shade_ast.specs.Repeats.{Many};
 ghost use Rattle.shade_ast.specs.Statements.{Block as BlockPhrase, Statement};
@@ -9,6 +9,7 @@ ghost use Rattle.shade_parse_stmt.specs.StatementParts.{block_seen, stmt_seen, b
 ghost use Rattle.shade_parse_simple.specs.Readings.{ReadsOf};
 ghost use Rattle.shade_parse_expr.specs.Parts.{Faults};
 ghost use Rattle.shade_cursor.specs.Shown.{lexemes};
+ghost use Rattle.shade_parse_expr.specs.Reading.{CanRead, Went, WentOrStayed};
 
 use crate::builds::{
     arm_of, block_of, block_statement, case_of, continuing_of, default_of, for_statement,
@@ -41,16 +42,11 @@ pub fn block(
     from: usize,
     node: u32,
 ) -> Result<Read<Block>, Fault>
-    requires within { from ≤ length pieces.now }
-    requires node { node + length pieces.now < 2 ^ 32 + from }
-    requires names { length names.old + length pieces.now < 2 ^ 32 + from }
+    requires can { CanRead pieces.now names.old from node }
     ensures tree { MatchResult result (λ r. ReadsOf block_seen BlockPhrase 0 (lexemes pieces.now) names.new from node r)
         (λ f. Faults BlockPhrase 0 (lexemes pieces.now) names.old names.new from f) }
     ensures grows { Grows names.old names.new }
-    ensures further { IfOk result (λ r. from < r.end) }
-    ensures within { IfOk result (λ r. r.end ≤ length pieces.now) }
-    ensures node { IfOk result (λ r. r.node + from ≤ node + r.end) }
-    ensures names { IfOk result (λ r. length names.new + from ≤ length names.old + r.end) }
+    ensures went { IfOk result (λ r. Went pieces.now names.old names.new from node r.end r.node) }
 {
     let attrs = attributes(alloc, pieces, names, from, node)?;
     let Some(place) = mark_at(pieces, attrs.end, Sign::OpenBrace) else {
@@ -69,16 +65,12 @@ fn braced(
     from: usize,
     node: u32,
 ) -> Result<Read<Body>, Fault>
-    requires within { from ≤ length pieces.now }
-    requires node { node + length pieces.now < 2 ^ 32 + from }
-    requires names { length names.old + length pieces.now < 2 ^ 32 + from }
+    requires can { CanRead pieces.now names.old from node }
     ensures tree { MatchResult result (λ r. ReadsOfBy body_seen Braced Anything (lexemes pieces.now) names.new from node r)
         (λ f. FaultsBy Braced Anything (lexemes pieces.now) names.old names.new from f) }
     ensures grows { Grows names.old names.new }
-    ensures further { IfOk result (λ r. from < r.end) }
-    ensures within { IfOk result (λ r. r.end ≤ length pieces.now) }
+    ensures went { IfOk result (λ r. Went pieces.now names.old names.new from node r.end r.node) }
     ensures node { IfOk result (λ r. r.node + from < node + r.end) }
-    ensures names { IfOk result (λ r. length names.new + from ≤ length names.old + r.end) }
 {
     let list = statements(alloc, pieces, names, from, node)?;
     let Some(end) = mark_at(pieces, list.end, Sign::CloseBrace) else {
@@ -103,16 +95,11 @@ fn statements(
     from: usize,
     node: u32,
 ) -> Result<Read<Items<Stmt>>, Fault>
-    requires within { from ≤ length pieces.now }
-    requires node { node + length pieces.now < 2 ^ 32 + from }
-    requires names { length names.old + length pieces.now < 2 ^ 32 + from }
+    requires can { CanRead pieces.now names.old from node }
     ensures tree { MatchResult result (λ r. ReadsOfBy stmts_seen (Many Statement) Closing (lexemes pieces.now) names.new from node r)
         (λ f. FaultsBy (Many Statement) Closing (lexemes pieces.now) names.old names.new from f) }
     ensures grows { Grows names.old names.new }
-    ensures further { IfOk result (λ r. from ≤ r.end) }
-    ensures within { IfOk result (λ r. r.end ≤ length pieces.now) }
-    ensures node { IfOk result (λ r. r.node + from ≤ node + r.end) }
-    ensures names { IfOk result (λ r. length names.new + from ≤ length names.old + r.end) }
+    ensures went { IfOk result (λ r. WentOrStayed pieces.now names.old names.new from node r.end r.node) }
 {
     let mut list = Items::new(alloc);
     let mut at = from;
@@ -139,16 +126,11 @@ fn statement(
     from: usize,
     node: u32,
 ) -> Result<Read<Stmt>, Fault>
-    requires within { from ≤ length pieces.now }
-    requires node { node + length pieces.now < 2 ^ 32 + from }
-    requires names { length names.old + length pieces.now < 2 ^ 32 + from }
+    requires can { CanRead pieces.now names.old from node }
     ensures tree { MatchResult result (λ r. ReadsOfBy stmt_seen Statement Free (lexemes pieces.now) names.new from node r)
         (λ f. FaultsBy Statement Free (lexemes pieces.now) names.old names.new from f) }
     ensures grows { Grows names.old names.new }
-    ensures further { IfOk result (λ r. from < r.end) }
-    ensures within { IfOk result (λ r. r.end ≤ length pieces.now) }
-    ensures node { IfOk result (λ r. r.node + from ≤ node + r.end) }
-    ensures names { IfOk result (λ r. length names.new + from ≤ length names.old + r.end) }
+    ensures went { IfOk result (λ r. Went pieces.now names.old names.new from node r.end r.node) }
 {
     if begins_compound(pieces, from) {
         return compound(alloc, pieces, names, from, node);
@@ -165,16 +147,11 @@ fn compound(
     from: usize,
     node: u32,
 ) -> Result<Read<Stmt>, Fault>
-    requires within { from ≤ length pieces.now }
-    requires node { node + length pieces.now < 2 ^ 32 + from }
-    requires names { length names.old + length pieces.now < 2 ^ 32 + from }
+    requires can { CanRead pieces.now names.old from node }
     ensures tree { MatchResult result (λ r. ReadsOfBy stmt_seen Compound Free (lexemes pieces.now) names.new from node r)
         (λ f. FaultsBy Compound Free (lexemes pieces.now) names.old names.new from f) }
     ensures grows { Grows names.old names.new }
-    ensures further { IfOk result (λ r. from < r.end) }
-    ensures within { IfOk result (λ r. r.end ≤ length pieces.now) }
-    ensures node { IfOk result (λ r. r.node + from ≤ node + r.end) }
-    ensures names { IfOk result (λ r. length names.new + from ≤ length names.old + r.end) }
+    ensures went { IfOk result (λ r. Went pieces.now names.old names.new from node r.end r.node) }
 {
     let attrs = attributes(alloc, pieces, names, from, node)?;
     let at = attrs.end;
@@ -218,16 +195,11 @@ fn guarded(
     from: usize,
     node: u32,
 ) -> Result<Read<Guarded>, Fault>
-    requires within { from ≤ length pieces.now }
-    requires node { node + length pieces.now < 2 ^ 32 + from }
-    requires names { length names.old + length pieces.now < 2 ^ 32 + from }
+    requires can { CanRead pieces.now names.old from node }
     ensures tree { MatchResult result (λ r. ReadsOfBy guarded_seen Guards (Above 0) (lexemes pieces.now) names.new from node r)
         (λ f. FaultsBy Guards (Above 0) (lexemes pieces.now) names.old names.new from f) }
     ensures grows { Grows names.old names.new }
-    ensures further { IfOk result (λ r. from < r.end) }
-    ensures within { IfOk result (λ r. r.end ≤ length pieces.now) }
-    ensures node { IfOk result (λ r. r.node + from ≤ node + r.end) }
-    ensures names { IfOk result (λ r. length names.new + from ≤ length names.old + r.end) }
+    ensures went { IfOk result (λ r. Went pieces.now names.old names.new from node r.end r.node) }
 {
     let condition = expression(alloc, pieces, names, from, node)?;
     let body = match block(alloc, pieces, names, condition.end, condition.node) {
@@ -253,16 +225,11 @@ fn branches(
     from: usize,
     node: u32,
 ) -> Result<Read<Branches>, Fault>
-    requires within { from ≤ length pieces.now }
-    requires node { node + length pieces.now < 2 ^ 32 + from }
-    requires names { length names.old + length pieces.now < 2 ^ 32 + from }
+    requires can { CanRead pieces.now names.old from node }
     ensures tree { MatchResult result (λ r. ReadsOfBy branches_seen AllArms Free (lexemes pieces.now) names.new from node r)
         (λ f. FaultsBy AllArms Free (lexemes pieces.now) names.old names.new from f) }
     ensures grows { Grows names.old names.new }
-    ensures further { IfOk result (λ r. from ≤ r.end) }
-    ensures within { IfOk result (λ r. r.end ≤ length pieces.now) }
-    ensures node { IfOk result (λ r. r.node + from ≤ node + r.end) }
-    ensures names { IfOk result (λ r. length names.new + from ≤ length names.old + r.end) }
+    ensures went { IfOk result (λ r. WentOrStayed pieces.now names.old names.new from node r.end r.node) }
 {
     let mut arms = Items::new(alloc);
     let mut at = from;
@@ -301,16 +268,11 @@ fn for_parts(
     from: usize,
     node: u32,
 ) -> Result<Read<ForParts>, Fault>
-    requires within { from ≤ length pieces.now }
-    requires node { node + length pieces.now < 2 ^ 32 + from }
-    requires names { length names.old + length pieces.now < 2 ^ 32 + from }
+    requires can { CanRead pieces.now names.old from node }
     ensures tree { MatchResult result (λ r. ReadsOfBy for_seen ForRest (Above 0) (lexemes pieces.now) names.new from node r)
         (λ f. FaultsBy ForRest (Above 0) (lexemes pieces.now) names.old names.new from f) }
     ensures grows { Grows names.old names.new }
-    ensures further { IfOk result (λ r. from < r.end) }
-    ensures within { IfOk result (λ r. r.end ≤ length pieces.now) }
-    ensures node { IfOk result (λ r. r.node + from ≤ node + r.end) }
-    ensures names { IfOk result (λ r. length names.new + from ≤ length names.old + r.end) }
+    ensures went { IfOk result (λ r. Went pieces.now names.old names.new from node r.end r.node) }
 {
     let head = for_header(alloc, pieces, names, from, node)?;
     let body = block(alloc, pieces, names, head.end, head.node);
@@ -334,16 +296,11 @@ fn switch_parts(
     from: usize,
     node: u32,
 ) -> Result<Read<SwitchParts>, Fault>
-    requires within { from ≤ length pieces.now }
-    requires node { node + length pieces.now < 2 ^ 32 + from }
-    requires names { length names.old + length pieces.now < 2 ^ 32 + from }
+    requires can { CanRead pieces.now names.old from node }
     ensures tree { MatchResult result (λ r. ReadsOfBy switch_seen SwitchRest Anything (lexemes pieces.now) names.new from node r)
         (λ f. FaultsBy SwitchRest Anything (lexemes pieces.now) names.old names.new from f) }
     ensures grows { Grows names.old names.new }
-    ensures further { IfOk result (λ r. from < r.end) }
-    ensures within { IfOk result (λ r. r.end ≤ length pieces.now) }
-    ensures node { IfOk result (λ r. r.node + from ≤ node + r.end) }
-    ensures names { IfOk result (λ r. length names.new + from ≤ length names.old + r.end) }
+    ensures went { IfOk result (λ r. Went pieces.now names.old names.new from node r.end r.node) }
 {
     let selector = expression(alloc, pieces, names, from, node)?;
     let inner = match attributes(alloc, pieces, names, selector.end, selector.node) {
@@ -382,16 +339,11 @@ fn clauses(
     from: usize,
     node: u32,
 ) -> Result<Read<Items<Clause>>, Fault>
-    requires within { from ≤ length pieces.now }
-    requires node { node + length pieces.now < 2 ^ 32 + from }
-    requires names { length names.old + length pieces.now < 2 ^ 32 + from }
+    requires can { CanRead pieces.now names.old from node }
     ensures tree { MatchResult result (λ r. ReadsOfBy clauses_seen (Many OneClause) (Above 9) (lexemes pieces.now) names.new from node r)
         (λ f. FaultsBy (Many OneClause) (Above 9) (lexemes pieces.now) names.old names.new from f) }
     ensures grows { Grows names.old names.new }
-    ensures further { IfOk result (λ r. from ≤ r.end) }
-    ensures within { IfOk result (λ r. r.end ≤ length pieces.now) }
-    ensures node { IfOk result (λ r. r.node + from ≤ node + r.end) }
-    ensures names { IfOk result (λ r. length names.new + from ≤ length names.old + r.end) }
+    ensures went { IfOk result (λ r. WentOrStayed pieces.now names.old names.new from node r.end r.node) }
 {
     let mut list = Items::new(alloc);
     let mut at = from;
@@ -418,16 +370,11 @@ fn clause(
     from: usize,
     node: u32,
 ) -> Result<Read<Clause>, Fault>
-    requires within { from ≤ length pieces.now }
-    requires node { node + length pieces.now < 2 ^ 32 + from }
-    requires names { length names.old + length pieces.now < 2 ^ 32 + from }
+    requires can { CanRead pieces.now names.old from node }
     ensures tree { MatchResult result (λ r. ReadsOfBy clause_seen OneClause (Above 0) (lexemes pieces.now) names.new from node r)
         (λ f. FaultsBy OneClause (Above 0) (lexemes pieces.now) names.old names.new from f) }
     ensures grows { Grows names.old names.new }
-    ensures further { IfOk result (λ r. from < r.end) }
-    ensures within { IfOk result (λ r. r.end ≤ length pieces.now) }
-    ensures node { IfOk result (λ r. r.node + from ≤ node + r.end) }
-    ensures names { IfOk result (λ r. length names.new + from ≤ length names.old + r.end) }
+    ensures went { IfOk result (λ r. Went pieces.now names.old names.new from node r.end r.node) }
 {
     if let Some(keyword) = key_at(pieces, from, Keyword::Case) {
         let list = selectors(alloc, pieces, names, from + 1, node)?;
@@ -458,16 +405,11 @@ fn clause_body(
     from: usize,
     node: u32,
 ) -> Result<Read<ClauseBody>, Fault>
-    requires within { from ≤ length pieces.now }
-    requires node { node + length pieces.now < 2 ^ 32 + from }
-    requires names { length names.old + length pieces.now < 2 ^ 32 + from }
+    requires can { CanRead pieces.now names.old from node }
     ensures tree { MatchResult result (λ r. ReadsOfBy clause_body_seen ColonBlock (Above 0) (lexemes pieces.now) names.new from node r)
         (λ f. FaultsBy ColonBlock (Above 0) (lexemes pieces.now) names.old names.new from f) }
     ensures grows { Grows names.old names.new }
-    ensures further { IfOk result (λ r. from < r.end) }
-    ensures within { IfOk result (λ r. r.end ≤ length pieces.now) }
-    ensures node { IfOk result (λ r. r.node + from ≤ node + r.end) }
-    ensures names { IfOk result (λ r. length names.new + from ≤ length names.old + r.end) }
+    ensures went { IfOk result (λ r. Went pieces.now names.old names.new from node r.end r.node) }
 {
     if is_mark(pieces, from, Sign::Colon) {
         let body = block(alloc, pieces, names, from + 1, node)?;
@@ -500,16 +442,11 @@ fn loop_parts(
     from: usize,
     node: u32,
 ) -> Result<Read<LoopParts>, Fault>
-    requires within { from ≤ length pieces.now }
-    requires node { node + length pieces.now < 2 ^ 32 + from }
-    requires names { length names.old + length pieces.now < 2 ^ 32 + from }
+    requires can { CanRead pieces.now names.old from node }
     ensures tree { MatchResult result (λ r. ReadsOfBy loop_seen LoopRest Anything (lexemes pieces.now) names.new from node r)
         (λ f. FaultsBy LoopRest Anything (lexemes pieces.now) names.old names.new from f) }
     ensures grows { Grows names.old names.new }
-    ensures further { IfOk result (λ r. from < r.end) }
-    ensures within { IfOk result (λ r. r.end ≤ length pieces.now) }
-    ensures node { IfOk result (λ r. r.node + from ≤ node + r.end) }
-    ensures names { IfOk result (λ r. length names.new + from ≤ length names.old + r.end) }
+    ensures went { IfOk result (λ r. Went pieces.now names.old names.new from node r.end r.node) }
 {
     let inner = attributes(alloc, pieces, names, from, node)?;
     let Some(_) = mark_at(pieces, inner.end, Sign::OpenBrace) else {
@@ -539,16 +476,11 @@ fn loop_end(
     from: usize,
     node: u32,
 ) -> Result<Read<LoopEnd>, Fault>
-    requires within { from ≤ length pieces.now }
-    requires node { node + length pieces.now < 2 ^ 32 + from }
-    requires names { length names.old + length pieces.now < 2 ^ 32 + from }
+    requires can { CanRead pieces.now names.old from node }
     ensures tree { MatchResult result (λ r. ReadsOfBy loop_end_seen LoopEnds Anything (lexemes pieces.now) names.new from node r)
         (λ f. FaultsBy LoopEnds Anything (lexemes pieces.now) names.old names.new from f) }
     ensures grows { Grows names.old names.new }
-    ensures further { IfOk result (λ r. from < r.end) }
-    ensures within { IfOk result (λ r. r.end ≤ length pieces.now) }
-    ensures node { IfOk result (λ r. r.node + from ≤ node + r.end) }
-    ensures names { IfOk result (λ r. length names.new + from ≤ length names.old + r.end) }
+    ensures went { IfOk result (λ r. Went pieces.now names.old names.new from node r.end r.node) }
 {
     if let Some(end) = mark_at(pieces, from, Sign::CloseBrace) {
         return Ok(Read {
@@ -587,16 +519,11 @@ fn continuing(
     node: u32,
     keyword: Place,
 ) -> Result<Read<Continuing>, Fault>
-    requires within { from ≤ length pieces.now }
-    requires node { node + length pieces.now < 2 ^ 32 + from }
-    requires names { length names.old + length pieces.now < 2 ^ 32 + from }
+    requires can { CanRead pieces.now names.old from node }
     ensures tree { MatchResult result (λ r. ReadsOfBy continuing_seen (ContinuingRest keyword) Anything (lexemes pieces.now) names.new from node r)
         (λ f. FaultsBy (ContinuingRest keyword) Anything (lexemes pieces.now) names.old names.new from f) }
     ensures grows { Grows names.old names.new }
-    ensures further { IfOk result (λ r. from < r.end) }
-    ensures within { IfOk result (λ r. r.end ≤ length pieces.now) }
-    ensures node { IfOk result (λ r. r.node + from ≤ node + r.end) }
-    ensures names { IfOk result (λ r. length names.new + from ≤ length names.old + r.end) }
+    ensures went { IfOk result (λ r. Went pieces.now names.old names.new from node r.end r.node) }
 {
     let attrs = attributes(alloc, pieces, names, from, node)?;
     let Some(_) = mark_at(pieces, attrs.end, Sign::OpenBrace) else {
@@ -619,16 +546,11 @@ fn last_body(
     from: usize,
     node: u32,
 ) -> Result<Read<LastBody>, Fault>
-    requires within { from ≤ length pieces.now }
-    requires node { node + length pieces.now < 2 ^ 32 + from }
-    requires names { length names.old + length pieces.now < 2 ^ 32 + from }
+    requires can { CanRead pieces.now names.old from node }
     ensures tree { MatchResult result (λ r. ReadsOfBy last_seen LastStatements Anything (lexemes pieces.now) names.new from node r)
         (λ f. FaultsBy LastStatements Anything (lexemes pieces.now) names.old names.new from f) }
     ensures grows { Grows names.old names.new }
-    ensures further { IfOk result (λ r. from < r.end) }
-    ensures within { IfOk result (λ r. r.end ≤ length pieces.now) }
-    ensures node { IfOk result (λ r. r.node + from ≤ node + r.end) }
-    ensures names { IfOk result (λ r. length names.new + from ≤ length names.old + r.end) }
+    ensures went { IfOk result (λ r. Went pieces.now names.old names.new from node r.end r.node) }
 {
     let mut statements = Items::new(alloc);
     let mut at = from;

@@ -10,7 +10,7 @@ use Rattle.shade_parse_stmt.proofs.SelectorsLaws.{selectors_begin, selectors_fai
 use Rattle.shade_parse_stmt.proofs.plain.selectors.Goals as goal
 
 pub list-init : goal.list-init
-list-init c = selectors_begin (lexemes c.args.pieces.now) (length c.args.pieces.now) c.args.from (omega (arith, length-map c.args.pieces.now lexeme, c.requires.within)) c.args.names.now c.args.node c.requires.within _ c.new-items.ensures
+list-init c = selectors_begin (lexemes c.args.pieces.now) (length c.args.pieces.now) c.args.from (omega (arith, length-map c.args.pieces.now lexeme, c.requires.can.within)) c.args.names.now c.args.node c.requires.can.within _ c.new-items.ensures
 
 pub returns-in_err-item-clause-tree : goal.returns-in_err-item-clause-tree
 returns-in_err-item-clause-tree c = errs _ c.in_err-item.field-0.0 _ _ c.from_residual.ensures.1
@@ -31,7 +31,7 @@ returns-then-ends_selectors-clause-tree c = selectors_comma_last (lexemes c.args
 pub list-preserved : goal.list-preserved
 list-preserved c = selectors_more (lexemes c.args.pieces.now) (length c.args.pieces.now) c.args.from c.args.names.now c.list.names c.args.node c.list.items c.list.at c.list.next
     c.list.invariant c.selector.new.names c.in_ok-item.ensures.grows c.in_ok-item.item c.in_ok-item.ensures.tree c.push_selector.new.items c.in_ok-push_selector.ensures _
-    c.in-Some.ensures.value c.if-ends_selectors.ensures.value c.in-Some.ensures.within c.in_ok-item.ensures.node c.in_ok-item.ensures.names
+    c.in-Some.ensures.value c.if-ends_selectors.ensures.value c.in-Some.ensures.within c.in_ok-item.ensures.went.numbered c.in_ok-item.ensures.went.few
 
 pub returns-in_err-item-clause-grows : goal.returns-in_err-item-clause-grows
 returns-in_err-item-clause-grows c = grows_trans _ _ _ c.list.invariant.grows c.in_err-item.ensures.grows
@@ -45,29 +45,27 @@ returns-in_default-clause-grows c = grows_trans _ _ _ c.list.invariant.grows c.i
 pub returns-then-ends_selectors-clause-grows : goal.returns-then-ends_selectors-clause-grows
 returns-then-ends_selectors-clause-grows c = grows_trans _ _ _ c.list.invariant.grows c.in_ok-item.ensures.grows
 
-pub selector-requires-clause-within : goal.selector-requires-clause-within
-selector-requires-clause-within c = omega (arith, c.list.invariant.within)
+pub selector-requires : goal.selector-requires
+selector-requires c = record {
+  can = record {
+    within = omega (arith, c.list.invariant.within);
+    numbered = omega (arith, c.list.invariant.numbered);
+    few = omega (arith, c.list.invariant.few);
+  };
+}
 
-pub selector-requires-clause-node : goal.selector-requires-clause-node
-selector-requires-clause-node c = omega (arith, c.list.invariant.numbered)
+pub returns-in_default-clause-went : goal.returns-in_default-clause-went
+returns-in_default-clause-went c = record {
+  further = omega (arith, c.list.invariant.past, c.in_ok-item.ensures.went.further);
+  within = omega (arith, c.in_ok-item.ensures.went.within);
+  numbered = omega (arith, c.list.invariant.numbered, c.in_ok-item.ensures.went.numbered);
+  few = omega (arith, c.list.invariant.few, c.in_ok-item.ensures.went.few);
+}
 
-pub selector-requires-clause-names : goal.selector-requires-clause-names
-selector-requires-clause-names c = omega (arith, c.list.invariant.few)
-
-pub returns-in_default-clause-further : goal.returns-in_default-clause-further
-returns-in_default-clause-further c = omega (arith, c.list.invariant.past, c.in_ok-item.ensures.further)
-
-pub returns-in_default-clause-node : goal.returns-in_default-clause-node
-returns-in_default-clause-node c = omega (arith, c.list.invariant.numbered, c.in_ok-item.ensures.node)
-
-pub returns-in_default-clause-names : goal.returns-in_default-clause-names
-returns-in_default-clause-names c = omega (arith, c.list.invariant.few, c.in_ok-item.ensures.names)
-
-pub returns-then-ends_selectors-clause-further : goal.returns-then-ends_selectors-clause-further
-returns-then-ends_selectors-clause-further c = omega (arith, c.list.invariant.past, c.in_ok-item.ensures.further)
-
-pub returns-then-ends_selectors-clause-node : goal.returns-then-ends_selectors-clause-node
-returns-then-ends_selectors-clause-node c = omega (arith, c.list.invariant.numbered, c.in_ok-item.ensures.node)
-
-pub returns-then-ends_selectors-clause-names : goal.returns-then-ends_selectors-clause-names
-returns-then-ends_selectors-clause-names c = omega (arith, c.list.invariant.few, c.in_ok-item.ensures.names)
+pub returns-then-ends_selectors-clause-went : goal.returns-then-ends_selectors-clause-went
+returns-then-ends_selectors-clause-went c = record {
+  further = omega (arith, c.list.invariant.past, c.in_ok-item.ensures.went.further);
+  within = omega (arith, c.in-Some.ensures.within);
+  numbered = omega (arith, c.list.invariant.numbered, c.in_ok-item.ensures.went.numbered);
+  few = omega (arith, c.list.invariant.few, c.in_ok-item.ensures.went.few);
+}

@@ -11,41 +11,28 @@ use Rattle.shade_parse_stmt.proofs.plain.simple_end.Goals as goal
 pub returns-in_err-part-clause-tree : goal.returns-in_err-part-clause-tree
 returns-in_err-part-clause-tree c = errs _ c.in_err-part.field-0.0 _ _ c.from_residual.ensures.1
     (fault_by SimpleEnd SimpleStatement Anything (Above 8) (lexemes c.args.pieces.now) c.args.names.now c.args.names.now _ c.args.from c.args.from c.in_err-part.field-0.0 (omega (arith))
-    (λ to x. simple_end_fails (lexemes c.args.pieces.now) c.args.from (omega (arith, length-map c.args.pieces.now lexeme, c.requires.within)) to x)
+    (λ to x. simple_end_fails (lexemes c.args.pieces.now) c.args.from (omega (arith, length-map c.args.pieces.now lexeme, c.requires.can.within)) to x)
     (ranked SimpleStatement 8 (lexemes c.args.pieces.now) c.args.names.now _ c.args.from c.in_err-part.field-0.0 c.in_err-part.ensures.tree))
 
 pub returns-in_err-whole-clause-tree : goal.returns-in_err-whole-clause-tree
 returns-in_err-whole-clause-tree c = errs _ c.in_err-whole.field-0.0 _ _ c.from_residual-in_err-whole.ensures.1
     (unexpected SimpleEnd Anything (lexemes c.args.pieces.now) c.args.names.now _ c.args.from c.in_ok-part.part.end c.in_err-whole.field-0.0 c.in_err-whole.ensures.fault
-    (omega (arith, c.in_ok-part.ensures.names))
-    (simple_end_open (lexemes c.args.pieces.now) c.args.from (omega (arith, length-map c.args.pieces.now lexeme, c.requires.within)) _ c.args.node c.in_ok-part.part
+    (omega (arith, c.in_ok-part.ensures.went.few))
+    (simple_end_open (lexemes c.args.pieces.now) c.args.from (omega (arith, length-map c.args.pieces.now lexeme, c.requires.can.within)) _ c.args.node c.in_ok-part.part
     c.in_ok-part.ensures.tree (λ p is. c.in_err-whole.ensures.mark p is)))
 
 pub returns-clause-tree : goal.returns-clause-tree
-returns-clause-tree c = simple_end_tree (lexemes c.args.pieces.now) c.args.from (omega (arith, length-map c.args.pieces.now lexeme, c.requires.within)) _ c.args.node c.in_ok-part.part
+returns-clause-tree c = simple_end_tree (lexemes c.args.pieces.now) c.args.from (omega (arith, length-map c.args.pieces.now lexeme, c.requires.can.within)) _ c.args.node c.in_ok-part.part
     c.in_ok-part.ensures.tree c.in_ok-whole.ensures.mark.0 c.in_ok-whole.ensures.mark.1 c.in_ok-whole.whole c.in_ok-whole.ensures.fault c.in_ok-whole.ensures.end c.in_ok-whole.ensures.node _
     c.simple_place-place.ensures _ c.statement_of.ensures
 
-pub returns-clause-further : goal.returns-clause-further
-returns-clause-further c =
+pub returns-clause-went : goal.returns-clause-went
+returns-clause-went c =
     let end : c.statement_of.result.end ≡ c.in_ok-whole.whole.end = ap (λ y. y.end) c.statement_of.ensures in
     let node : c.statement_of.result.node ≡ c.in_ok-whole.whole.node + 1 = ap (λ y. y.node) c.statement_of.ensures in
-    omega (arith, c.in_ok-part.ensures.further, c.in_ok-whole.ensures.end, c.in_ok-whole.ensures.node, c.in_ok-whole.ensures.within)
-
-pub returns-clause-within : goal.returns-clause-within
-returns-clause-within c =
-    let end : c.statement_of.result.end ≡ c.in_ok-whole.whole.end = ap (λ y. y.end) c.statement_of.ensures in
-    let node : c.statement_of.result.node ≡ c.in_ok-whole.whole.node + 1 = ap (λ y. y.node) c.statement_of.ensures in
-    omega (arith, c.in_ok-whole.ensures.end, c.in_ok-whole.ensures.node, c.in_ok-whole.ensures.within)
-
-pub returns-clause-node : goal.returns-clause-node
-returns-clause-node c =
-    let end : c.statement_of.result.end ≡ c.in_ok-whole.whole.end = ap (λ y. y.end) c.statement_of.ensures in
-    let node : c.statement_of.result.node ≡ c.in_ok-whole.whole.node + 1 = ap (λ y. y.node) c.statement_of.ensures in
-    omega (arith, c.in_ok-part.ensures.node, c.in_ok-whole.ensures.end, c.in_ok-whole.ensures.node, c.in_ok-whole.ensures.within)
-
-pub returns-clause-names : goal.returns-clause-names
-returns-clause-names c =
-    let end : c.statement_of.result.end ≡ c.in_ok-whole.whole.end = ap (λ y. y.end) c.statement_of.ensures in
-    let node : c.statement_of.result.node ≡ c.in_ok-whole.whole.node + 1 = ap (λ y. y.node) c.statement_of.ensures in
-    omega (arith, c.in_ok-part.ensures.names, c.in_ok-whole.ensures.end, c.in_ok-whole.ensures.node, c.in_ok-whole.ensures.within)
+    record {
+      further = omega (arith, c.in_ok-part.ensures.went.further, c.in_ok-whole.ensures.end, c.in_ok-whole.ensures.node, c.in_ok-whole.ensures.within);
+      within = omega (arith, c.in_ok-whole.ensures.end, c.in_ok-whole.ensures.node, c.in_ok-whole.ensures.within);
+      numbered = omega (arith, c.in_ok-part.ensures.went.numbered, c.in_ok-whole.ensures.end, c.in_ok-whole.ensures.node, c.in_ok-whole.ensures.within);
+      few = omega (arith, c.in_ok-part.ensures.went.few, c.in_ok-whole.ensures.end, c.in_ok-whole.ensures.node, c.in_ok-whole.ensures.within);
+    }

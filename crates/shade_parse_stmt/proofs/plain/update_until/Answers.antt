@@ -10,35 +10,31 @@ use Rattle.shade_parse_stmt.proofs.Plains.{maybe_update_fails, maybe_update_open
 use Rattle.shade_parse_stmt.proofs.plain.update_until.Goals as goal
 
 pub returns-then-is_mark-clause-tree : goal.returns-then-is_mark-clause-tree
-returns-then-is_mark-clause-tree c = no_update_tree (lexemes c.args.pieces.now) c.args.from (omega (arith, length-map c.args.pieces.now lexeme, c.requires.within)) c.args.names.now c.args.node (c.if-is_mark.ensures.value.0 refl).0 (c.if-is_mark.ensures.value.0 refl).1
+returns-then-is_mark-clause-tree c = no_update_tree (lexemes c.args.pieces.now) c.args.from (omega (arith, length-map c.args.pieces.now lexeme, c.requires.can.within)) c.args.names.now c.args.node (c.if-is_mark.ensures.value.0 refl).0 (c.if-is_mark.ensures.value.0 refl).1
 
 pub returns-in_err-part-clause-tree : goal.returns-in_err-part-clause-tree
 returns-in_err-part-clause-tree c = errs _ c.in_err-part.field-0.0 _ _ c.from_residual.ensures.1
     (fault_by UntilUpdate UpdateOf Anything (Above 7) (lexemes c.args.pieces.now) c.args.names.now c.args.names.now _ c.args.from c.args.from c.in_err-part.field-0.0 (omega (arith))
-    (λ to x. maybe_update_fails (lexemes c.args.pieces.now) c.args.from (omega (arith, length-map c.args.pieces.now lexeme, c.requires.within))
+    (λ to x. maybe_update_fails (lexemes c.args.pieces.now) c.args.from (omega (arith, length-map c.args.pieces.now lexeme, c.requires.can.within))
     (λ p is. isnt c.if-is_mark.ensures.value (p, is)) to x)
     (ranked UpdateOf 7 (lexemes c.args.pieces.now) c.args.names.now _ c.args.from c.in_err-part.field-0.0 c.in_err-part.ensures.tree))
 
 pub returns-in_err-whole-clause-tree : goal.returns-in_err-whole-clause-tree
 returns-in_err-whole-clause-tree c = errs _ c.in_err-whole.field-0.0 _ _ c.from_residual-in_err-whole.ensures.1
     (unexpected UntilUpdate Anything (lexemes c.args.pieces.now) c.args.names.now _ c.args.from c.in_ok-part.part.end c.in_err-whole.field-0.0 c.in_err-whole.ensures.fault
-    (omega (arith, c.in_ok-part.ensures.names))
-    (maybe_update_open (lexemes c.args.pieces.now) c.args.from (omega (arith, length-map c.args.pieces.now lexeme, c.requires.within)) (λ p is. isnt c.if-is_mark.ensures.value (p, is)) _
+    (omega (arith, c.in_ok-part.ensures.went.few))
+    (maybe_update_open (lexemes c.args.pieces.now) c.args.from (omega (arith, length-map c.args.pieces.now lexeme, c.requires.can.within)) (λ p is. isnt c.if-is_mark.ensures.value (p, is)) _
     c.args.node c.in_ok-part.part c.in_ok-part.ensures.tree (λ p is. c.in_err-whole.ensures.mark p is)))
 
 pub returns-clause-tree : goal.returns-clause-tree
-returns-clause-tree c = some_update_tree (lexemes c.args.pieces.now) c.args.from (omega (arith, length-map c.args.pieces.now lexeme, c.requires.within))
+returns-clause-tree c = some_update_tree (lexemes c.args.pieces.now) c.args.from (omega (arith, length-map c.args.pieces.now lexeme, c.requires.can.within))
     (λ p is. isnt c.if-is_mark.ensures.value (p, is)) _ c.args.node c.in_ok-part.part c.in_ok-part.ensures.tree c.in_ok-whole.ensures.mark.0 c.in_ok-whole.ensures.mark.1 c.in_ok-whole.whole
     c.in_ok-whole.ensures.fault c.in_ok-whole.ensures.end c.in_ok-whole.ensures.node
 
-pub returns-clause-further : goal.returns-clause-further
-returns-clause-further c = omega (arith, c.in_ok-part.ensures.further, c.in_ok-whole.ensures.end, c.in_ok-whole.ensures.node, c.in_ok-whole.ensures.within)
-
-pub returns-clause-within : goal.returns-clause-within
-returns-clause-within c = omega (arith, c.in_ok-whole.ensures.end, c.in_ok-whole.ensures.node, c.in_ok-whole.ensures.within)
-
-pub returns-clause-node : goal.returns-clause-node
-returns-clause-node c = omega (arith, c.in_ok-part.ensures.node, c.in_ok-whole.ensures.end, c.in_ok-whole.ensures.node, c.in_ok-whole.ensures.within)
-
-pub returns-clause-names : goal.returns-clause-names
-returns-clause-names c = omega (arith, c.in_ok-part.ensures.names, c.in_ok-whole.ensures.end, c.in_ok-whole.ensures.node, c.in_ok-whole.ensures.within)
+pub returns-clause-went : goal.returns-clause-went
+returns-clause-went c = record {
+  further = omega (arith, c.in_ok-part.ensures.went.further, c.in_ok-whole.ensures.end, c.in_ok-whole.ensures.node, c.in_ok-whole.ensures.within);
+  within = omega (arith, c.in_ok-whole.ensures.end, c.in_ok-whole.ensures.node, c.in_ok-whole.ensures.within);
+  numbered = omega (arith, c.in_ok-part.ensures.went.numbered, c.in_ok-whole.ensures.end, c.in_ok-whole.ensures.node, c.in_ok-whole.ensures.within);
+  few = omega (arith, c.in_ok-part.ensures.went.few, c.in_ok-whole.ensures.end, c.in_ok-whole.ensures.node, c.in_ok-whole.ensures.within);
+}
