@@ -1,6 +1,6 @@
 //! Declarations.
 
-ghost use Rattle.std.specs.Prelude.{◌≡◌, ◌+◌, ◌<◌, ◌≤◌, ◌^◌, length, IfOk, MatchResult};
+ghost use Rattle.std.specs.Prelude.{◌≡◌, ◌+◌, ◌<◌, ◌^◌, IfOk, MatchResult};
 ghost use Rattle.shade_ast.specs.Names.{Grows};
 ghost use Rattle.shade_ast.specs.Declarations.{Declaration};
 ghost use Rattle.shade_ast.specs.Chains.{Headed};
@@ -9,6 +9,7 @@ ghost use Rattle.shade_parse_simple.specs.Readings.{first_of, ReadsOf};
 ghost use Rattle.shade_parse.specs.Rests.{AliasRest, AssertRest, ConstRest, FnRest, OverrideRest, PlainAt, StructRest};
 ghost use Rattle.shade_parse_expr.specs.Parts.{Faults};
 ghost use Rattle.shade_cursor.specs.Shown.{lexemes};
+ghost use Rattle.shade_parse_expr.specs.Reading.{CanRead, Went};
 
 use crate::members::{maybe_result, members, parameters};
 use shade_ast::{
@@ -52,16 +53,11 @@ pub fn declaration(
     from: usize,
     node: u32,
 ) -> Result<Read<Decl>, Fault>
-    requires within { from ≤ length pieces.now }
-    requires node { node + length pieces.now < 2 ^ 32 + from }
-    requires names { length names.old + length pieces.now < 2 ^ 32 + from }
+    requires can { CanRead pieces.now names.old from node }
     ensures tree { MatchResult result (λ r. ReadsOf decl_seen Declaration 0 (lexemes pieces.now) names.new from node r)
         (λ f. Faults Declaration 0 (lexemes pieces.now) names.old names.new from f) }
     ensures grows { Grows names.old names.new }
-    ensures further { IfOk result (λ r. from < r.end) }
-    ensures within { IfOk result (λ r. r.end ≤ length pieces.now) }
-    ensures node { IfOk result (λ r. r.node + from ≤ node + r.end) }
-    ensures names { IfOk result (λ r. length names.new + from ≤ length names.old + r.end) }
+    ensures went { IfOk result (λ r. Went pieces.now names.old names.new from node r.end r.node) }
 {
     let attrs = attributes(alloc, pieces, names, from, node)?;
     if let Some(keyword) = key_at(pieces, attrs.end, Keyword::Fn) {
@@ -93,16 +89,11 @@ fn function(
     from: usize,
     node: u32,
 ) -> Result<Read<FnBody>, Fault>
-    requires within { from ≤ length pieces.now }
-    requires node { node + length pieces.now < 2 ^ 32 + from }
-    requires names { length names.old + length pieces.now < 2 ^ 32 + from }
+    requires can { CanRead pieces.now names.old from node }
     ensures tree { MatchResult result (λ r. ReadsOf fn_seen FnRest 0 (lexemes pieces.now) names.new from node r)
         (λ f. Faults FnRest 0 (lexemes pieces.now) names.old names.new from f) }
     ensures grows { Grows names.old names.new }
-    ensures further { IfOk result (λ r. from < r.end) }
-    ensures within { IfOk result (λ r. r.end ≤ length pieces.now) }
-    ensures node { IfOk result (λ r. r.node + from ≤ node + r.end) }
-    ensures names { IfOk result (λ r. length names.new + from ≤ length names.old + r.end) }
+    ensures went { IfOk result (λ r. Went pieces.now names.old names.new from node r.end r.node) }
 {
     let name = name(pieces, names, from, node)?;
     let Some(_) = mark_at(pieces, name.end, Sign::Open) else {
@@ -136,16 +127,11 @@ fn overridable(
     from: usize,
     node: u32,
 ) -> Result<Read<OverrideBody>, Fault>
-    requires within { from ≤ length pieces.now }
-    requires node { node + length pieces.now < 2 ^ 32 + from }
-    requires names { length names.old + length pieces.now < 2 ^ 32 + from }
+    requires can { CanRead pieces.now names.old from node }
     ensures tree { MatchResult result (λ r. ReadsOf override_seen OverrideRest 0 (lexemes pieces.now) names.new from node r)
         (λ f. Faults OverrideRest 0 (lexemes pieces.now) names.old names.new from f) }
     ensures grows { Grows names.old names.new }
-    ensures further { IfOk result (λ r. from < r.end) }
-    ensures within { IfOk result (λ r. r.end ≤ length pieces.now) }
-    ensures node { IfOk result (λ r. r.node + from ≤ node + r.end) }
-    ensures names { IfOk result (λ r. length names.new + from ≤ length names.old + r.end) }
+    ensures went { IfOk result (λ r. Went pieces.now names.old names.new from node r.end r.node) }
 {
     let name = name(pieces, names, from, node)?;
     let ty = maybe_type(alloc, pieces, names, name.end, name.node)?;
@@ -260,16 +246,11 @@ fn plain(
     from: usize,
     node: u32,
 ) -> Result<Read<Decl>, Fault>
-    requires within { from ≤ length pieces.now }
-    requires node { node + length pieces.now < 2 ^ 32 + from }
-    requires names { length names.old + length pieces.now < 2 ^ 32 + from }
+    requires can { CanRead pieces.now names.old from node }
     ensures tree { MatchResult result (λ r. ReadsOf decl_seen (Headed PlainAt) 0 (lexemes pieces.now) names.new from node r)
         (λ f. Faults (Headed PlainAt) 0 (lexemes pieces.now) names.old names.new from f) }
     ensures grows { Grows names.old names.new }
-    ensures further { IfOk result (λ r. from < r.end) }
-    ensures within { IfOk result (λ r. r.end ≤ length pieces.now) }
-    ensures node { IfOk result (λ r. r.node + from ≤ node + r.end) }
-    ensures names { IfOk result (λ r. length names.new + from ≤ length names.old + r.end) }
+    ensures went { IfOk result (λ r. Went pieces.now names.old names.new from node r.end r.node) }
 {
     if let Some(place) = mark_at(pieces, from, Sign::Semicolon) {
         return Ok(numbered(place, DeclKind::Empty, from + 1, node));
@@ -302,16 +283,11 @@ fn alias(
     node: u32,
     place: Place,
 ) -> Result<Read<DeclKind>, Fault>
-    requires within { from ≤ length pieces.now }
-    requires node { node + length pieces.now < 2 ^ 32 + from }
-    requires names { length names.old + length pieces.now < 2 ^ 32 + from }
+    requires can { CanRead pieces.now names.old from node }
     ensures tree { MatchResult result (λ r. ReadsOf (decl_kind_seen place) (AliasRest place) 0 (lexemes pieces.now) names.new from node r)
         (λ f. Faults (AliasRest place) 0 (lexemes pieces.now) names.old names.new from f) }
     ensures grows { Grows names.old names.new }
-    ensures further { IfOk result (λ r. from < r.end) }
-    ensures within { IfOk result (λ r. r.end ≤ length pieces.now) }
-    ensures node { IfOk result (λ r. r.node + from ≤ node + r.end) }
-    ensures names { IfOk result (λ r. length names.new + from ≤ length names.old + r.end) }
+    ensures went { IfOk result (λ r. Went pieces.now names.old names.new from node r.end r.node) }
 {
     let name = name(pieces, names, from, node)?;
     let Some(_) = mark_at(pieces, name.end, Sign::Equal) else {
@@ -340,16 +316,11 @@ fn constant(
     node: u32,
     place: Place,
 ) -> Result<Read<DeclKind>, Fault>
-    requires within { from ≤ length pieces.now }
-    requires node { node + length pieces.now < 2 ^ 32 + from }
-    requires names { length names.old + length pieces.now < 2 ^ 32 + from }
+    requires can { CanRead pieces.now names.old from node }
     ensures tree { MatchResult result (λ r. ReadsOf (decl_kind_seen place) (ConstRest place) 0 (lexemes pieces.now) names.new from node r)
         (λ f. Faults (ConstRest place) 0 (lexemes pieces.now) names.old names.new from f) }
     ensures grows { Grows names.old names.new }
-    ensures further { IfOk result (λ r. from < r.end) }
-    ensures within { IfOk result (λ r. r.end ≤ length pieces.now) }
-    ensures node { IfOk result (λ r. r.node + from ≤ node + r.end) }
-    ensures names { IfOk result (λ r. length names.new + from ≤ length names.old + r.end) }
+    ensures went { IfOk result (λ r. Went pieces.now names.old names.new from node r.end r.node) }
 {
     let binding = bound(alloc, pieces, names, from, node, place)?;
     let Some(_) = mark_at(pieces, binding.end, Sign::Semicolon) else {
@@ -371,16 +342,11 @@ fn assertion(
     node: u32,
     place: Place,
 ) -> Result<Read<DeclKind>, Fault>
-    requires within { from ≤ length pieces.now }
-    requires node { node + length pieces.now < 2 ^ 32 + from }
-    requires names { length names.old + length pieces.now < 2 ^ 32 + from }
+    requires can { CanRead pieces.now names.old from node }
     ensures tree { MatchResult result (λ r. ReadsOf (decl_kind_seen place) (AssertRest place) 0 (lexemes pieces.now) names.new from node r)
         (λ f. Faults (AssertRest place) 0 (lexemes pieces.now) names.old names.new from f) }
     ensures grows { Grows names.old names.new }
-    ensures further { IfOk result (λ r. from < r.end) }
-    ensures within { IfOk result (λ r. r.end ≤ length pieces.now) }
-    ensures node { IfOk result (λ r. r.node + from ≤ node + r.end) }
-    ensures names { IfOk result (λ r. length names.new + from ≤ length names.old + r.end) }
+    ensures went { IfOk result (λ r. Went pieces.now names.old names.new from node r.end r.node) }
 {
     let condition = expression(alloc, pieces, names, from, node)?;
     let Some(_) = mark_at(pieces, condition.end, Sign::Semicolon) else {
@@ -402,16 +368,11 @@ fn structure(
     node: u32,
     place: Place,
 ) -> Result<Read<DeclKind>, Fault>
-    requires within { from ≤ length pieces.now }
-    requires node { node + length pieces.now < 2 ^ 32 + from }
-    requires names { length names.old + length pieces.now < 2 ^ 32 + from }
+    requires can { CanRead pieces.now names.old from node }
     ensures tree { MatchResult result (λ r. ReadsOf (decl_kind_seen place) (StructRest place) 0 (lexemes pieces.now) names.new from node r)
         (λ f. Faults (StructRest place) 0 (lexemes pieces.now) names.old names.new from f) }
     ensures grows { Grows names.old names.new }
-    ensures further { IfOk result (λ r. from < r.end) }
-    ensures within { IfOk result (λ r. r.end ≤ length pieces.now) }
-    ensures node { IfOk result (λ r. r.node + from ≤ node + r.end) }
-    ensures names { IfOk result (λ r. length names.new + from ≤ length names.old + r.end) }
+    ensures went { IfOk result (λ r. Went pieces.now names.old names.new from node r.end r.node) }
 {
     let name = name(pieces, names, from, node)?;
     let Some(_) = mark_at(pieces, name.end, Sign::OpenBrace) else {

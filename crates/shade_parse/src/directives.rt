@@ -1,6 +1,6 @@
 //! Directives.
 
-ghost use Rattle.std.specs.Prelude.{◌≡◌, ◌+◌, ◌<◌, ◌≤◌, ◌^◌, length, IfOk, MatchResult};
+ghost use Rattle.std.specs.Prelude.{◌≡◌, ◌+◌, ◌<◌, ◌^◌, IfOk, MatchResult};
 ghost use Rattle.shade_ast.specs.Names.{Grows};
 ghost use Rattle.shade_ast.specs.Declarations.{DirectiveOf, RuleOf};
 ghost use Rattle.shade_parse.specs.Parts.{directive_kind_seen, directive_seen, rule_seen};
@@ -8,6 +8,7 @@ ghost use Rattle.shade_parse_simple.specs.Readings.{ReadsOf};
 ghost use Rattle.shade_parse.specs.Rests.{DiagnosticRest};
 ghost use Rattle.shade_parse_expr.specs.Parts.{Faults};
 ghost use Rattle.shade_cursor.specs.Shown.{lexemes};
+ghost use Rattle.shade_parse_expr.specs.Reading.{CanRead, Went};
 
 use crate::members::name_list;
 use shade_ast::{Directive, DirectiveKind, Keyword, Names, Rule, Sign};
@@ -26,16 +27,11 @@ pub fn directive(
     from: usize,
     node: u32,
 ) -> Result<Read<Directive>, Fault>
-    requires within { from ≤ length pieces.now }
-    requires node { node + length pieces.now < 2 ^ 32 + from }
-    requires names { length names.old + length pieces.now < 2 ^ 32 + from }
+    requires can { CanRead pieces.now names.old from node }
     ensures tree { MatchResult result (λ r. ReadsOf directive_seen DirectiveOf 0 (lexemes pieces.now) names.new from node r)
         (λ f. Faults DirectiveOf 0 (lexemes pieces.now) names.old names.new from f) }
     ensures grows { Grows names.old names.new }
-    ensures further { IfOk result (λ r. from < r.end) }
-    ensures within { IfOk result (λ r. r.end ≤ length pieces.now) }
-    ensures node { IfOk result (λ r. r.node + from ≤ node + r.end) }
-    ensures names { IfOk result (λ r. length names.new + from ≤ length names.old + r.end) }
+    ensures went { IfOk result (λ r. Went pieces.now names.old names.new from node r.end r.node) }
 {
     if let Some(place) = key_at(pieces, from, Keyword::Diagnostic) {
         let kind = diagnostic(pieces, names, from + 1, node, place)?;
@@ -100,16 +96,11 @@ fn diagnostic(
     node: u32,
     place: Place,
 ) -> Result<Read<DirectiveKind>, Fault>
-    requires within { from ≤ length pieces.now }
-    requires node { node + length pieces.now < 2 ^ 32 + from }
-    requires names { length names.old + length pieces.now < 2 ^ 32 + from }
+    requires can { CanRead pieces.now names.old from node }
     ensures tree { MatchResult result (λ r. ReadsOf (directive_kind_seen place) (DiagnosticRest place) 0 (lexemes pieces.now) names.new from node r)
         (λ f. Faults (DiagnosticRest place) 0 (lexemes pieces.now) names.old names.new from f) }
     ensures grows { Grows names.old names.new }
-    ensures further { IfOk result (λ r. from < r.end) }
-    ensures within { IfOk result (λ r. r.end ≤ length pieces.now) }
-    ensures node { IfOk result (λ r. r.node + from ≤ node + r.end) }
-    ensures names { IfOk result (λ r. length names.new + from ≤ length names.old + r.end) }
+    ensures went { IfOk result (λ r. Went pieces.now names.old names.new from node r.end r.node) }
 {
     let Some(_) = mark_at(pieces, from, Sign::Open) else {
         return Err(Fault::Unexpected(from));
@@ -136,16 +127,11 @@ fn diagnostic(
 
 /// The rule of a diagnostic filter.
 fn rule(pieces: &[Piece], names: &mut Names, from: usize, node: u32) -> Result<Read<Rule>, Fault>
-    requires within { from ≤ length pieces.now }
-    requires node { node + length pieces.now < 2 ^ 32 + from }
-    requires names { length names.old + length pieces.now < 2 ^ 32 + from }
+    requires can { CanRead pieces.now names.old from node }
     ensures tree { MatchResult result (λ r. ReadsOf rule_seen RuleOf 2 (lexemes pieces.now) names.new from node r)
         (λ f. Faults RuleOf 2 (lexemes pieces.now) names.old names.new from f) }
     ensures grows { Grows names.old names.new }
-    ensures further { IfOk result (λ r. from < r.end) }
-    ensures within { IfOk result (λ r. r.end ≤ length pieces.now) }
-    ensures node { IfOk result (λ r. r.node + from ≤ node + r.end) }
-    ensures names { IfOk result (λ r. length names.new + from ≤ length names.old + r.end) }
+    ensures went { IfOk result (λ r. Went pieces.now names.old names.new from node r.end r.node) }
 {
     let first = name(pieces, names, from, node)?;
     let Some(dot) = mark_at(pieces, first.end, Sign::Dot) else {

@@ -1,6 +1,6 @@
 //! Members, parameters, results and lists of names.
 
-ghost use Rattle.std.specs.Prelude.{◌≡◌, ◌+◌, ◌<◌, ◌≤◌, ◌^◌, ◌⊎◌, length, IfOk, MatchResult};
+ghost use Rattle.std.specs.Prelude.{◌≡◌, ◌+◌, ◌<◌, ◌^◌, ◌⊎◌, IfOk, MatchResult};
 ghost use Rattle.shade_ast.specs.declared.lexeme.Sign.TheVariants as sign_;
 ghost use Rattle.shade_ast.specs.Lexemes.{Mark};
 ghost use Rattle.shade_ast.specs.Names.{Grows};
@@ -13,6 +13,7 @@ ghost use Rattle.shade_parse_simple.specs.Readings.{named_seen, ReadsOf};
 ghost use Rattle.shade_parse.specs.Rests.{Enclosed};
 ghost use Rattle.shade_parse_expr.specs.Parts.{Faults};
 ghost use Rattle.shade_cursor.specs.Shown.{lexemes};
+ghost use Rattle.shade_parse_expr.specs.Reading.{CanRead, Went, WentOrStayed};
 
 use shade_ast::{FnResult, Member, Named, Names, Sign};
 use shade_base::Place;
@@ -43,17 +44,12 @@ pub fn name_list(
     from: usize,
     node: u32,
 ) -> Result<Read<ItemList<Named>>, Fault>
-    requires within { from ≤ length pieces.now }
-    requires node { node + length pieces.now < 2 ^ 32 + from }
-    requires names { length names.old + length pieces.now < 2 ^ 32 + from }
+    requires can { CanRead pieces.now names.old from node }
     ensures tree { MatchResult result
         (λ r. ReadsOf (enclosed_seen named_seen) (Enclosed (Listed Name) sign_.Semicolon) 0 (lexemes pieces.now) names.new from node r)
         (λ f. Faults (Enclosed (Listed Name) sign_.Semicolon) 0 (lexemes pieces.now) names.old names.new from f) }
     ensures grows { Grows names.old names.new }
-    ensures further { IfOk result (λ r. from < r.end) }
-    ensures within { IfOk result (λ r. r.end ≤ length pieces.now) }
-    ensures node { IfOk result (λ r. r.node + from ≤ node + r.end) }
-    ensures names { IfOk result (λ r. length names.new + from ≤ length names.old + r.end) }
+    ensures went { IfOk result (λ r. Went pieces.now names.old names.new from node r.end r.node) }
 {
     let mut items = Items::new(alloc);
     let mut at = from;
@@ -105,16 +101,11 @@ fn member(
     from: usize,
     node: u32,
 ) -> Result<Read<Member>, Fault>
-    requires within { from ≤ length pieces.now }
-    requires node { node + length pieces.now < 2 ^ 32 + from }
-    requires names { length names.old + length pieces.now < 2 ^ 32 + from }
+    requires can { CanRead pieces.now names.old from node }
     ensures tree { MatchResult result (λ r. ReadsOf member_seen MemberOf 0 (lexemes pieces.now) names.new from node r)
         (λ f. Faults MemberOf 0 (lexemes pieces.now) names.old names.new from f) }
     ensures grows { Grows names.old names.new }
-    ensures further { IfOk result (λ r. from < r.end) }
-    ensures within { IfOk result (λ r. r.end ≤ length pieces.now) }
-    ensures node { IfOk result (λ r. r.node + from ≤ node + r.end) }
-    ensures names { IfOk result (λ r. length names.new + from ≤ length names.old + r.end) }
+    ensures went { IfOk result (λ r. Went pieces.now names.old names.new from node r.end r.node) }
 {
     let attrs = attributes(alloc, pieces, names, from, node)?;
     let name = name(pieces, names, attrs.end, attrs.node)?;
@@ -142,18 +133,13 @@ pub fn members(
     node: u32,
     closer: Sign,
 ) -> Result<Read<ItemList<Member>>, Fault>
-    requires within { from ≤ length pieces.now }
-    requires node { node + length pieces.now < 2 ^ 32 + from }
-    requires names { length names.old + length pieces.now < 2 ^ 32 + from }
+    requires can { CanRead pieces.now names.old from node }
     requires closer { (closer ≡ sign_.CloseBrace) ⊎ (closer ≡ sign_.Close) }
     ensures tree { MatchResult result
         (λ r. ReadsOf (enclosed_seen member_seen) (Enclosed (Listed MemberOf) closer) 0 (lexemes pieces.now) names.new from node r)
         (λ f. Faults (Enclosed (Listed MemberOf) closer) 0 (lexemes pieces.now) names.old names.new from f) }
     ensures grows { Grows names.old names.new }
-    ensures further { IfOk result (λ r. from < r.end) }
-    ensures within { IfOk result (λ r. r.end ≤ length pieces.now) }
-    ensures node { IfOk result (λ r. r.node + from ≤ node + r.end) }
-    ensures names { IfOk result (λ r. length names.new + from ≤ length names.old + r.end) }
+    ensures went { IfOk result (λ r. Went pieces.now names.old names.new from node r.end r.node) }
 {
     let mut items = Items::new(alloc);
     let mut at = from;
@@ -183,17 +169,12 @@ pub fn parameters(
     from: usize,
     node: u32,
 ) -> Result<Read<ItemList<Member>>, Fault>
-    requires within { from ≤ length pieces.now }
-    requires node { node + length pieces.now < 2 ^ 32 + from }
-    requires names { length names.old + length pieces.now < 2 ^ 32 + from }
+    requires can { CanRead pieces.now names.old from node }
     ensures tree { MatchResult result
         (λ r. ReadsOf (enclosed_seen member_seen) (Enclosed (MaybeListed MemberOf) sign_.Close) 0 (lexemes pieces.now) names.new from node r)
         (λ f. Faults (Enclosed (MaybeListed MemberOf) sign_.Close) 0 (lexemes pieces.now) names.old names.new from f) }
     ensures grows { Grows names.old names.new }
-    ensures further { IfOk result (λ r. from < r.end) }
-    ensures within { IfOk result (λ r. r.end ≤ length pieces.now) }
-    ensures node { IfOk result (λ r. r.node + from ≤ node + r.end) }
-    ensures names { IfOk result (λ r. length names.new + from ≤ length names.old + r.end) }
+    ensures went { IfOk result (λ r. Went pieces.now names.old names.new from node r.end r.node) }
 {
     if let Some(close) = mark_at(pieces, from, Sign::Close) {
         return Ok(closed_list(Items::new(alloc), false, close, from, node));
@@ -209,16 +190,11 @@ pub fn maybe_result(
     from: usize,
     node: u32,
 ) -> Result<Read<Option<FnResult>>, Fault>
-    requires within { from ≤ length pieces.now }
-    requires node { node + length pieces.now < 2 ^ 32 + from }
-    requires names { length names.old + length pieces.now < 2 ^ 32 + from }
+    requires can { CanRead pieces.now names.old from node }
     ensures tree { MatchResult result (λ r. MaybeOf result_seen (Mark sign_.Arrow) ResultOf 0 (lexemes pieces.now) names.new from node r)
         (λ f. MaybeFaults (Mark sign_.Arrow) ResultOf 0 (lexemes pieces.now) names.old names.new from f) }
     ensures grows { Grows names.old names.new }
-    ensures further { IfOk result (λ r. from ≤ r.end) }
-    ensures within { IfOk result (λ r. r.end ≤ length pieces.now) }
-    ensures node { IfOk result (λ r. r.node + from ≤ node + r.end) }
-    ensures names { IfOk result (λ r. length names.new + from ≤ length names.old + r.end) }
+    ensures went { IfOk result (λ r. WentOrStayed pieces.now names.old names.new from node r.end r.node) }
 {
     let Some(_) = mark_at(pieces, from, Sign::Arrow) else {
         return Ok(Read {

@@ -16,38 +16,38 @@ use Rattle.shade_parse.proofs.declarations.alias.Goals as goal
 pub returns-in_err-name-clause-tree : goal.returns-in_err-name-clause-tree
 returns-in_err-name-clause-tree c = errs _ c.in_err-name.field-0.0 _ _ c.from_residual.ensures.1
     (fault_on (AliasRest c.args.place) Name 0 0 (lexemes c.args.pieces.now) c.args.names.now c.args.names.now _ c.args.from c.args.from c.in_err-name.field-0.0 (omega arith)
-    (λ to f. alias_name_fails c.args.place (within c.args.pieces.now c.args.from c.requires.within) f) c.in_err-name.ensures.tree)
+    (λ to f. alias_name_fails c.args.place (within c.args.pieces.now c.args.from c.requires.can.within) f) c.in_err-name.ensures.tree)
 
 pub returns-in_default-clause-tree : goal.returns-in_default-clause-tree
 returns-in_default-clause-tree c = fails_here (AliasRest c.args.place) 0 (lexemes c.args.pieces.now) c.args.names.now c.name.new.names c.args.from c.in_ok-name.name.end
-    (omega (arith, c.in_ok-name.ensures.names)) (alias_stuck c.args.place (within c.args.pieces.now c.args.from c.requires.within) c.in_ok-name.ensures.tree.reads c.in_default.ensures.value)
+    (omega (arith, c.in_ok-name.ensures.went.few)) (alias_stuck c.args.place (within c.args.pieces.now c.args.from c.requires.can.within) c.in_ok-name.ensures.tree.reads c.in_default.ensures.value)
 
 pub returns-in_err-ty-clause-tree : goal.returns-in_err-ty-clause-tree
 returns-in_err-ty-clause-tree c = errs _ c.in_err-ty.field-0.0 _ _ c.from_residual-in_err-ty.ensures.1
     (fault_on (AliasRest c.args.place) TypeName 0 0 (lexemes c.args.pieces.now) c.args.names.now c.name.new.names _ c.args.from (c.in_ok-name.name.end + 1) c.in_err-ty.field-0.0
-    (omega (arith, c.in_ok-name.ensures.names))
+    (omega (arith, c.in_ok-name.ensures.went.few))
     (λ to f. closed_fails TypeName (alias_decl c.args.place _) (omega arith)
-    (alias_equal c.args.place (within c.args.pieces.now c.args.from c.requires.within) c.in_ok-name.ensures.tree.reads _ c.in-Some.ensures.value) f) c.in_err-ty.ensures.tree)
+    (alias_equal c.args.place (within c.args.pieces.now c.args.from c.requires.can.within) c.in_ok-name.ensures.tree.reads _ c.in-Some.ensures.value) f) c.in_err-ty.ensures.tree)
 
 pub returns-in_default-mark_at-clause-tree : goal.returns-in_default-mark_at-clause-tree
 returns-in_default-mark_at-clause-tree c = errs _ (fault.Unexpected (c.in_ok-ty.ty.end)) _ _ c.refuse.ensures
     (fails_here (AliasRest c.args.place) 0 (lexemes c.args.pieces.now) c.args.names.now c.type_name.new.names c.args.from c.in_ok-ty.ty.end
-    (omega (arith, c.in_ok-name.ensures.names, c.in_ok-ty.ensures.names))
+    (omega (arith, c.in_ok-name.ensures.went.few, c.in_ok-ty.ensures.went.few))
     (closed_stuck TypeName (alias_decl c.args.place _) (omega arith)
-    (alias_equal c.args.place (within c.args.pieces.now c.args.from c.requires.within) c.in_ok-name.ensures.tree.reads _ c.in-Some.ensures.value) c.in_ok-ty.ensures.tree.reads
+    (alias_equal c.args.place (within c.args.pieces.now c.args.from c.requires.can.within) c.in_ok-name.ensures.tree.reads _ c.in-Some.ensures.value) c.in_ok-ty.ensures.tree.reads
     c.in_default-mark_at.ensures.value))
 
 pub returns-clause-tree : goal.returns-clause-tree
-returns-clause-tree c = alias_tree (within c.args.pieces.now c.args.from c.requires.within) (widen named_keeps c.in_ok-ty.ensures.grows c.in_ok-name.ensures.tree) c.in-Some.ensures.value (part_reads c.in_ok-ty.ensures.tree) c.in-Some-mark_at.ensures.value
+returns-clause-tree c = alias_tree (within c.args.pieces.now c.args.from c.requires.can.within) (widen named_keeps c.in_ok-ty.ensures.grows c.in_ok-name.ensures.tree) c.in-Some.ensures.value (part_reads c.in_ok-ty.ensures.tree) c.in-Some-mark_at.ensures.value
 
-pub type_name-requires-clause-within : goal.type_name-requires-clause-within
-type_name-requires-clause-within c = omega (arith, c.in-Some.ensures.within)
-
-pub type_name-requires-clause-node : goal.type_name-requires-clause-node
-type_name-requires-clause-node c = omega (arith, c.in_ok-name.ensures.node)
-
-pub type_name-requires-clause-names : goal.type_name-requires-clause-names
-type_name-requires-clause-names c = omega (arith, c.in_ok-name.ensures.names)
+pub type_name-requires : goal.type_name-requires
+type_name-requires c = record {
+  can = record {
+    within = omega (arith, c.in-Some.ensures.within);
+    numbered = omega (arith, c.in_ok-name.ensures.went.numbered);
+    few = omega (arith, c.in_ok-name.ensures.went.few);
+  };
+}
 
 pub returns-in_err-ty-clause-grows : goal.returns-in_err-ty-clause-grows
 returns-in_err-ty-clause-grows c = grows_trans _ _ _ c.in_ok-name.ensures.grows c.in_err-ty.ensures.grows
@@ -58,14 +58,10 @@ returns-in_default-mark_at-clause-grows c = grows_trans _ _ _ c.in_ok-name.ensur
 pub returns-clause-grows : goal.returns-clause-grows
 returns-clause-grows c = grows_trans _ _ _ c.in_ok-name.ensures.grows c.in_ok-ty.ensures.grows
 
-pub returns-clause-further : goal.returns-clause-further
-returns-clause-further c = omega (arith, c.in_ok-name.ensures.further, c.in_ok-ty.ensures.further)
-
-pub returns-clause-within : goal.returns-clause-within
-returns-clause-within c = omega (arith, c.in-Some-mark_at.ensures.within)
-
-pub returns-clause-node : goal.returns-clause-node
-returns-clause-node c = omega (arith, c.in_ok-name.ensures.node, c.in_ok-ty.ensures.node)
-
-pub returns-clause-names : goal.returns-clause-names
-returns-clause-names c = omega (arith, c.in_ok-name.ensures.names, c.in_ok-ty.ensures.names)
+pub returns-clause-went : goal.returns-clause-went
+returns-clause-went c = record {
+  further = omega (arith, c.in_ok-name.ensures.went.further, c.in_ok-ty.ensures.went.further);
+  within = omega (arith, c.in-Some-mark_at.ensures.within);
+  numbered = omega (arith, c.in_ok-name.ensures.went.numbered, c.in_ok-ty.ensures.went.numbered);
+  few = omega (arith, c.in_ok-name.ensures.went.few, c.in_ok-ty.ensures.went.few);
+}

@@ -16,27 +16,23 @@ returns-in_err-binding-clause-tree c = errs _ c.in_err-binding.field-0.0 _ _ c.f
     (fault_on (ConstRest c.args.place) (Bound c.args.place) 0 7 (lexemes c.args.pieces.now) c.args.names.now c.args.names.now _ c.args.from c.args.from c.in_err-binding.field-0.0
     (omega arith)
     (λ to f. closed_fails (Bound c.args.place) (const_decl c.args.place) (omega arith)
-    (begin (ConstRest c.args.place) 0 (lexemes c.args.pieces.now) c.args.from (within c.args.pieces.now c.args.from c.requires.within)) f) c.in_err-binding.ensures.tree)
+    (begin (ConstRest c.args.place) 0 (lexemes c.args.pieces.now) c.args.from (within c.args.pieces.now c.args.from c.requires.can.within)) f) c.in_err-binding.ensures.tree)
 
 pub returns-in_default-clause-tree : goal.returns-in_default-clause-tree
 returns-in_default-clause-tree c = errs _ (fault.Unexpected (c.in_ok-binding.binding.end)) _ _ c.refuse.ensures
     (fails_here (ConstRest c.args.place) 0 (lexemes c.args.pieces.now) c.args.names.now c.bound.new.names c.args.from c.in_ok-binding.binding.end
-    (omega (arith, c.in_ok-binding.ensures.names))
+    (omega (arith, c.in_ok-binding.ensures.went.few))
     (closed_stuck (Bound c.args.place) (const_decl c.args.place) (omega arith)
-    (begin (ConstRest c.args.place) 0 (lexemes c.args.pieces.now) c.args.from (within c.args.pieces.now c.args.from c.requires.within)) c.in_ok-binding.ensures.tree.reads
+    (begin (ConstRest c.args.place) 0 (lexemes c.args.pieces.now) c.args.from (within c.args.pieces.now c.args.from c.requires.can.within)) c.in_ok-binding.ensures.tree.reads
     c.in_default.ensures.value))
 
 pub returns-clause-tree : goal.returns-clause-tree
-returns-clause-tree c = const_tree (within c.args.pieces.now c.args.from c.requires.within) c.in_ok-binding.ensures.tree c.in-Some.ensures.value
+returns-clause-tree c = const_tree (within c.args.pieces.now c.args.from c.requires.can.within) c.in_ok-binding.ensures.tree c.in-Some.ensures.value
 
-pub returns-clause-further : goal.returns-clause-further
-returns-clause-further c = omega (arith, c.in_ok-binding.ensures.further)
-
-pub returns-clause-within : goal.returns-clause-within
-returns-clause-within c = omega (arith, c.in-Some.ensures.within)
-
-pub returns-clause-node : goal.returns-clause-node
-returns-clause-node c = omega (arith, c.in_ok-binding.ensures.node)
-
-pub returns-clause-names : goal.returns-clause-names
-returns-clause-names c = omega (arith, c.in_ok-binding.ensures.names)
+pub returns-clause-went : goal.returns-clause-went
+returns-clause-went c = record {
+  further = omega (arith, c.in_ok-binding.ensures.went.further);
+  within = omega (arith, c.in-Some.ensures.within);
+  numbered = omega (arith, c.in_ok-binding.ensures.went.numbered);
+  few = omega (arith, c.in_ok-binding.ensures.went.few);
+}

@@ -17,31 +17,29 @@ use Rattle.shade_parse.proofs.declarations.structure.Goals as goal
 pub returns-in_err-name-clause-tree : goal.returns-in_err-name-clause-tree
 returns-in_err-name-clause-tree c = errs _ c.in_err-name.field-0.0 _ _ c.from_residual.ensures.1
     (fault_on (StructRest c.args.place) Name 0 0 (lexemes c.args.pieces.now) c.args.names.now c.args.names.now _ c.args.from c.args.from c.in_err-name.field-0.0 (omega arith)
-    (λ to f. struct_name_fails c.args.place some_members (within c.args.pieces.now c.args.from c.requires.within) f) c.in_err-name.ensures.tree)
+    (λ to f. struct_name_fails c.args.place some_members (within c.args.pieces.now c.args.from c.requires.can.within) f) c.in_err-name.ensures.tree)
 
 pub returns-in_default-clause-tree : goal.returns-in_default-clause-tree
 returns-in_default-clause-tree c = fails_here (StructRest c.args.place) 0 (lexemes c.args.pieces.now) c.args.names.now c.name.new.names c.args.from c.in_ok-name.name.end
-    (omega (arith, c.in_ok-name.ensures.names))
-    (struct_stuck c.args.place some_members (within c.args.pieces.now c.args.from c.requires.within) c.in_ok-name.ensures.tree.reads c.in_default.ensures.value)
+    (omega (arith, c.in_ok-name.ensures.went.few))
+    (struct_stuck c.args.place some_members (within c.args.pieces.now c.args.from c.requires.can.within) c.in_ok-name.ensures.tree.reads c.in_default.ensures.value)
 
 pub returns-in_err-list-clause-tree : goal.returns-in_err-list-clause-tree
 returns-in_err-list-clause-tree c = errs _ c.in_err-list.field-0.0 _ _ c.from_residual-in_err-list.ensures.1
     (fault_on (StructRest c.args.place) (Enclosed (Listed MemberOf) sign.CloseBrace) 0 0 (lexemes c.args.pieces.now) c.args.names.now c.name.new.names _ c.args.from
-    (c.in_ok-name.name.end + 1) c.in_err-list.field-0.0 (omega (arith, c.in_ok-name.ensures.names))
-    (λ to f. struct_members_fail c.args.place some_members (within c.args.pieces.now c.args.from c.requires.within) c.in_ok-name.ensures.tree.reads _ c.in-Some.ensures.value f)
+    (c.in_ok-name.name.end + 1) c.in_err-list.field-0.0 (omega (arith, c.in_ok-name.ensures.went.few))
+    (λ to f. struct_members_fail c.args.place some_members (within c.args.pieces.now c.args.from c.requires.can.within) c.in_ok-name.ensures.tree.reads _ c.in-Some.ensures.value f)
     c.in_err-list.ensures.tree)
 
 pub returns-clause-tree : goal.returns-clause-tree
-returns-clause-tree c = struct_tree (within c.args.pieces.now c.args.from c.requires.within) (widen named_keeps c.in_ok-list.ensures.grows c.in_ok-name.ensures.tree) c.in-Some.ensures.value c.in_ok-list.ensures.tree
+returns-clause-tree c = struct_tree (within c.args.pieces.now c.args.from c.requires.can.within) (widen named_keeps c.in_ok-list.ensures.grows c.in_ok-name.ensures.tree) c.in-Some.ensures.value c.in_ok-list.ensures.tree
 
-pub members-requires-clause-within : goal.members-requires-clause-within
-members-requires-clause-within c = omega (arith, c.in-Some.ensures.within)
-
-pub members-requires-clause-node : goal.members-requires-clause-node
-members-requires-clause-node c = omega (arith, c.in_ok-name.ensures.node)
-
-pub members-requires-clause-names : goal.members-requires-clause-names
-members-requires-clause-names c = omega (arith, c.in_ok-name.ensures.names)
+pub members-requires-clause-can : goal.members-requires-clause-can
+members-requires-clause-can c = record {
+  within = omega (arith, c.in-Some.ensures.within);
+  numbered = omega (arith, c.in_ok-name.ensures.went.numbered);
+  few = omega (arith, c.in_ok-name.ensures.went.few);
+}
 
 pub returns-in_err-list-clause-grows : goal.returns-in_err-list-clause-grows
 returns-in_err-list-clause-grows c = grows_trans _ _ _ c.in_ok-name.ensures.grows c.in_err-list.ensures.grows
@@ -49,14 +47,10 @@ returns-in_err-list-clause-grows c = grows_trans _ _ _ c.in_ok-name.ensures.grow
 pub returns-clause-grows : goal.returns-clause-grows
 returns-clause-grows c = grows_trans _ _ _ c.in_ok-name.ensures.grows c.in_ok-list.ensures.grows
 
-pub returns-clause-further : goal.returns-clause-further
-returns-clause-further c = omega (arith, c.in_ok-name.ensures.further, c.in_ok-list.ensures.further)
-
-pub returns-clause-within : goal.returns-clause-within
-returns-clause-within c = omega (arith, c.in_ok-list.ensures.within)
-
-pub returns-clause-node : goal.returns-clause-node
-returns-clause-node c = omega (arith, c.in_ok-name.ensures.node, c.in_ok-list.ensures.node)
-
-pub returns-clause-names : goal.returns-clause-names
-returns-clause-names c = omega (arith, c.in_ok-name.ensures.names, c.in_ok-list.ensures.names)
+pub returns-clause-went : goal.returns-clause-went
+returns-clause-went c = record {
+  further = omega (arith, c.in_ok-name.ensures.went.further, c.in_ok-list.ensures.went.further);
+  within = omega (arith, c.in_ok-list.ensures.went.within);
+  numbered = omega (arith, c.in_ok-name.ensures.went.numbered, c.in_ok-list.ensures.went.numbered);
+  few = omega (arith, c.in_ok-name.ensures.went.few, c.in_ok-list.ensures.went.few);
+}

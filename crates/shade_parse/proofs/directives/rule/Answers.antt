@@ -13,31 +13,27 @@ use Rattle.shade_parse.proofs.directives.rule.Goals as goal
 pub returns-in_err-first-clause-tree : goal.returns-in_err-first-clause-tree
 returns-in_err-first-clause-tree c = errs _ c.in_err-first.field-0.0 _ _ c.from_residual.ensures.1
     (fault_on RuleOf Name 2 0 (lexemes c.args.pieces.now) c.args.names.now c.args.names.now _ c.args.from c.args.from c.in_err-first.field-0.0 (omega arith)
-    (λ to f. rule_name_fails (within c.args.pieces.now c.args.from c.requires.within) f) c.in_err-first.ensures.tree)
+    (λ to f. rule_name_fails (within c.args.pieces.now c.args.from c.requires.can.within) f) c.in_err-first.ensures.tree)
 
 pub returns-in_default-clause-tree : goal.returns-in_default-clause-tree
-returns-in_default-clause-tree c = plain_tree (within c.args.pieces.now c.args.from c.requires.within) c.in_ok-first.ensures.tree c.in_default.ensures.value
+returns-in_default-clause-tree c = plain_tree (within c.args.pieces.now c.args.from c.requires.can.within) c.in_ok-first.ensures.tree c.in_default.ensures.value
 
 pub returns-in_err-name-clause-tree : goal.returns-in_err-name-clause-tree
 returns-in_err-name-clause-tree c = errs _ c.in_err-name.field-0.0 _ _ c.from_residual-in_err-name.ensures.1
     (fault_on RuleOf Name 2 0 (lexemes c.args.pieces.now) c.args.names.now c.name.new.names _ c.args.from (c.in_ok-first.first.end + 1) c.in_err-name.field-0.0
-    (omega (arith, c.in_ok-first.ensures.names))
-    (λ to f. rule_second_fails (within c.args.pieces.now c.args.from c.requires.within) c.in_ok-first.ensures.tree.reads _ c.in-Some.ensures.value f) c.in_err-name.ensures.tree)
+    (omega (arith, c.in_ok-first.ensures.went.few))
+    (λ to f. rule_second_fails (within c.args.pieces.now c.args.from c.requires.can.within) c.in_ok-first.ensures.tree.reads _ c.in-Some.ensures.value f) c.in_err-name.ensures.tree)
 
 pub returns-clause-tree : goal.returns-clause-tree
-returns-clause-tree c = scoped_tree (within c.args.pieces.now c.args.from c.requires.within) (widen named_keeps c.in_ok-name.ensures.grows c.in_ok-first.ensures.tree) c.in-Some.ensures.value c.in_ok-name.ensures.tree
+returns-clause-tree c = scoped_tree (within c.args.pieces.now c.args.from c.requires.can.within) (widen named_keeps c.in_ok-name.ensures.grows c.in_ok-first.ensures.tree) c.in-Some.ensures.value c.in_ok-name.ensures.tree
 
-pub returns-in_default-clause-further : goal.returns-in_default-clause-further
-returns-in_default-clause-further c = omega (arith, c.in_ok-first.ensures.further)
-
-pub returns-in_default-clause-within : goal.returns-in_default-clause-within
-returns-in_default-clause-within c = omega (arith, c.in_ok-first.ensures.within)
-
-pub returns-in_default-clause-node : goal.returns-in_default-clause-node
-returns-in_default-clause-node c = omega (arith, c.in_ok-first.ensures.node)
-
-pub returns-in_default-clause-names : goal.returns-in_default-clause-names
-returns-in_default-clause-names c = omega (arith, c.in_ok-first.ensures.names)
+pub returns-in_default-clause-went : goal.returns-in_default-clause-went
+returns-in_default-clause-went c = record {
+  further = omega (arith, c.in_ok-first.ensures.went.further);
+  within = omega (arith, c.in_ok-first.ensures.went.within);
+  numbered = omega (arith, c.in_ok-first.ensures.went.numbered);
+  few = omega (arith, c.in_ok-first.ensures.went.few);
+}
 
 pub returns-in_err-name-clause-grows : goal.returns-in_err-name-clause-grows
 returns-in_err-name-clause-grows c = grows_trans _ _ _ c.in_ok-first.ensures.grows c.in_err-name.ensures.grows
@@ -45,14 +41,10 @@ returns-in_err-name-clause-grows c = grows_trans _ _ _ c.in_ok-first.ensures.gro
 pub returns-clause-grows : goal.returns-clause-grows
 returns-clause-grows c = grows_trans _ _ _ c.in_ok-first.ensures.grows c.in_ok-name.ensures.grows
 
-pub returns-clause-further : goal.returns-clause-further
-returns-clause-further c = omega (arith, c.in_ok-first.ensures.further, c.in_ok-name.ensures.further)
-
-pub returns-clause-within : goal.returns-clause-within
-returns-clause-within c = omega (arith, c.in_ok-name.ensures.within)
-
-pub returns-clause-node : goal.returns-clause-node
-returns-clause-node c = omega (arith, c.in_ok-first.ensures.node, c.in_ok-name.ensures.node)
-
-pub returns-clause-names : goal.returns-clause-names
-returns-clause-names c = omega (arith, c.in_ok-first.ensures.names, c.in_ok-name.ensures.names)
+pub returns-clause-went : goal.returns-clause-went
+returns-clause-went c = record {
+  further = omega (arith, c.in_ok-first.ensures.went.further, c.in_ok-name.ensures.went.further);
+  within = omega (arith, c.in_ok-name.ensures.went.within);
+  numbered = omega (arith, c.in_ok-first.ensures.went.numbered, c.in_ok-name.ensures.went.numbered);
+  few = omega (arith, c.in_ok-first.ensures.went.few, c.in_ok-name.ensures.went.few);
+}

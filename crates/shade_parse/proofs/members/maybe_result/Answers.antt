@@ -19,29 +19,29 @@ pub returns-in_err-attrs-clause-tree : goal.returns-in_err-attrs-clause-tree
 returns-in_err-attrs-clause-tree c = errs _ c.in_err-attrs.field-0.0 _ _ c.from_residual.ensures.1
     (fault_in ResultOf (Many Attribute) 0 8 (lexemes c.args.pieces.now) c.args.names.now c.args.names.now _ c.args.from (c.args.from + 1) (omega arith) (Mark sign.Arrow)
     (_, c.in-Some.ensures.value) (omega arith) c.in_err-attrs.field-0.0
-    (λ to f. opened_fails result_opens (omega arith) (within c.args.pieces.now c.args.from c.requires.within) (λ p. refl) _ c.in-Some.ensures.value
+    (λ to f. opened_fails result_opens (omega arith) (within c.args.pieces.now c.args.from c.requires.can.within) (λ p. refl) _ c.in-Some.ensures.value
     (result_attrs_fail (within c.args.pieces.now (c.args.from + 1) (omega (arith, c.in-Some.ensures.within))) f)) c.in_err-attrs.ensures.tree)
 
 pub returns-in_err-ty-clause-tree : goal.returns-in_err-ty-clause-tree
 returns-in_err-ty-clause-tree c = errs _ c.in_err-ty.field-0.0 _ _ c.from_residual-in_err-ty.ensures.1
-    (fault_in ResultOf TypeName 0 0 (lexemes c.args.pieces.now) c.args.names.now c.attributes.new.names _ c.args.from c.in_ok-attrs.attrs.end (omega (arith, c.in_ok-attrs.ensures.names))
-    (Mark sign.Arrow) (_, c.in-Some.ensures.value) (omega (arith, c.in_ok-attrs.ensures.further)) c.in_err-ty.field-0.0
-    (λ to f. opened_fails result_opens (omega arith) (within c.args.pieces.now c.args.from c.requires.within) (λ p. refl) _ c.in-Some.ensures.value
+    (fault_in ResultOf TypeName 0 0 (lexemes c.args.pieces.now) c.args.names.now c.attributes.new.names _ c.args.from c.in_ok-attrs.attrs.end (omega (arith, c.in_ok-attrs.ensures.went.few))
+    (Mark sign.Arrow) (_, c.in-Some.ensures.value) (omega (arith, c.in_ok-attrs.ensures.went.further)) c.in_err-ty.field-0.0
+    (λ to f. opened_fails result_opens (omega arith) (within c.args.pieces.now c.args.from c.requires.can.within) (λ p. refl) _ c.in-Some.ensures.value
     (result_type_fails (within c.args.pieces.now (c.args.from + 1) (omega (arith, c.in-Some.ensures.within))) c.in_ok-attrs.ensures.tree.reads f)) c.in_err-ty.ensures.tree)
 
 pub returns-clause-tree : goal.returns-clause-tree
-returns-clause-tree c = result_tree (within c.args.pieces.now c.args.from c.requires.within) c.in-Some.ensures.value
-    (within c.args.pieces.now (c.args.from + 1) (omega (arith, c.in-Some.ensures.within))) (omega (arith, c.in_ok-attrs.ensures.further, c.in_ok-ty.ensures.further))
+returns-clause-tree c = result_tree (within c.args.pieces.now c.args.from c.requires.can.within) c.in-Some.ensures.value
+    (within c.args.pieces.now (c.args.from + 1) (omega (arith, c.in-Some.ensures.within))) (omega (arith, c.in_ok-attrs.ensures.went.further, c.in_ok-ty.ensures.went.further))
     (widen attrs_keep c.in_ok-ty.ensures.grows c.in_ok-attrs.ensures.tree) (part_reads c.in_ok-ty.ensures.tree)
 
-pub type_name-requires-clause-within : goal.type_name-requires-clause-within
-type_name-requires-clause-within c = omega (arith, c.in_ok-attrs.ensures.within)
-
-pub type_name-requires-clause-node : goal.type_name-requires-clause-node
-type_name-requires-clause-node c = omega (arith, c.in_ok-attrs.ensures.node)
-
-pub type_name-requires-clause-names : goal.type_name-requires-clause-names
-type_name-requires-clause-names c = omega (arith, c.in_ok-attrs.ensures.names)
+pub type_name-requires : goal.type_name-requires
+type_name-requires c = record {
+  can = record {
+    within = omega (arith, c.in_ok-attrs.ensures.went.within);
+    numbered = omega (arith, c.in_ok-attrs.ensures.went.numbered);
+    few = omega (arith, c.in_ok-attrs.ensures.went.few);
+  };
+}
 
 pub returns-in_err-ty-clause-grows : goal.returns-in_err-ty-clause-grows
 returns-in_err-ty-clause-grows c = grows_trans _ _ _ c.in_ok-attrs.ensures.grows c.in_err-ty.ensures.grows
@@ -49,14 +49,10 @@ returns-in_err-ty-clause-grows c = grows_trans _ _ _ c.in_ok-attrs.ensures.grows
 pub returns-clause-grows : goal.returns-clause-grows
 returns-clause-grows c = grows_trans _ _ _ c.in_ok-attrs.ensures.grows c.in_ok-ty.ensures.grows
 
-pub returns-clause-further : goal.returns-clause-further
-returns-clause-further c = omega (arith, c.in_ok-attrs.ensures.further, c.in_ok-ty.ensures.further)
-
-pub returns-clause-within : goal.returns-clause-within
-returns-clause-within c = omega (arith, c.in_ok-ty.ensures.within)
-
-pub returns-clause-node : goal.returns-clause-node
-returns-clause-node c = omega (arith, c.in_ok-attrs.ensures.node, c.in_ok-ty.ensures.node)
-
-pub returns-clause-names : goal.returns-clause-names
-returns-clause-names c = omega (arith, c.in_ok-attrs.ensures.names, c.in_ok-ty.ensures.names)
+pub returns-clause-went : goal.returns-clause-went
+returns-clause-went c = record {
+  further = omega (arith, c.in_ok-attrs.ensures.went.further, c.in_ok-ty.ensures.went.further);
+  within = omega (arith, c.in_ok-ty.ensures.went.within);
+  numbered = omega (arith, c.in_ok-attrs.ensures.went.numbered, c.in_ok-ty.ensures.went.numbered);
+  few = omega (arith, c.in_ok-attrs.ensures.went.few, c.in_ok-ty.ensures.went.few);
+}

@@ -15,7 +15,7 @@ use Rattle.shade_parse.proofs.MemberLaws.{names_listed}
 use Rattle.shade_parse.proofs.members.name_list.Goals as goal
 
 pub items-init : goal.items-init
-items-init c = list_first names_listed c.new-items.ensures (within c.args.pieces.now c.args.from c.requires.within) c.requires.within
+items-init c = list_first names_listed c.new-items.ensures (within c.args.pieces.now c.args.from c.requires.can.within) c.requires.can.within
 
 pub returns-in_err-item-clause-tree : goal.returns-in_err-item-clause-tree
 returns-in_err-item-clause-tree c = errs _ c.in_err-item.field-0.0 _ _ c.from_residual.ensures.1
@@ -29,7 +29,7 @@ returns-in-Some-clause-tree c = subst
 
 pub returns-in_default-mark_at-clause-tree : goal.returns-in_default-mark_at-clause-tree
 returns-in_default-mark_at-clause-tree c = fails_here (Enclosed (Listed Name) sign.Semicolon) 0 (lexemes c.args.pieces.now) c.args.names.now _ c.args.from c.in_ok-item.item.end
-    (omega (arith, c.items.invariant.few, c.in_ok-item.ensures.names))
+    (omega (arith, c.items.invariant.few, c.in_ok-item.ensures.went.few))
     (list_stuck names_listed c.items.invariant named_keeps c.push.new.items c.in_ok-item.ensures.grows c.in_ok-item.ensures.tree c.in_ok-push.ensures c.in_default.ensures.value
     c.in_default-mark_at.ensures.value)
 
@@ -42,8 +42,8 @@ returns-in-Some-mark_at-2-clause-tree c = subst
 
 pub items-preserved : goal.items-preserved
 items-preserved c = list_more names_listed c.items.invariant named_keeps c.push.new.items c.in_ok-item.ensures.grows c.in_ok-item.ensures.tree c.in_ok-push.ensures c.in_default.ensures.value
-    c.in-Some-mark_at.ensures.value c.in_default-mark_at-2.ensures.value c.in_ok-item.ensures.further (omega (arith, c.in-Some-mark_at.ensures.within)) c.in_ok-item.ensures.node
-    c.in_ok-item.ensures.names
+    c.in-Some-mark_at.ensures.value c.in_default-mark_at-2.ensures.value c.in_ok-item.ensures.went.further (omega (arith, c.in-Some-mark_at.ensures.within)) c.in_ok-item.ensures.went.numbered
+    c.in_ok-item.ensures.went.few
 
 pub returns-in_err-item-clause-grows : goal.returns-in_err-item-clause-grows
 returns-in_err-item-clause-grows c = grows_trans _ _ _ c.items.invariant.grows c.in_err-item.ensures.grows
@@ -60,49 +60,33 @@ returns-in_default-mark_at-clause-grows c = grows_trans _ _ _ c.items.invariant.
 pub returns-in-Some-mark_at-2-clause-grows : goal.returns-in-Some-mark_at-2-clause-grows
 returns-in-Some-mark_at-2-clause-grows c = grows_trans _ _ _ c.items.invariant.grows c.in_ok-item.ensures.grows
 
-pub name-requires-clause-within : goal.name-requires-clause-within
-name-requires-clause-within c = omega (arith, c.items.invariant.within)
+pub name-requires : goal.name-requires
+name-requires c = record {
+  can = record {
+    within = omega (arith, c.items.invariant.within);
+    numbered = omega (arith, c.items.invariant.numbered);
+    few = omega (arith, c.items.invariant.few);
+  };
+}
 
-pub name-requires-clause-node : goal.name-requires-clause-node
-name-requires-clause-node c = omega (arith, c.items.invariant.numbered)
-
-pub name-requires-clause-names : goal.name-requires-clause-names
-name-requires-clause-names c = omega (arith, c.items.invariant.few)
-
-pub returns-in-Some-clause-further : goal.returns-in-Some-clause-further
-returns-in-Some-clause-further c = let end : c.closed_list.result.end ≡ c.in_ok-item.item.end + 1 = ap (λ y. y.end) c.closed_list.ensures in let node : c.closed_list.result.node ≡
-    c.in_ok-item.item.node = ap (λ y. y.node) c.closed_list.ensures in omega (arith, c.items.invariant.past, c.in_ok-item.ensures.further)
-
-pub returns-in-Some-clause-within : goal.returns-in-Some-clause-within
-returns-in-Some-clause-within c =
+pub returns-in-Some-clause-went : goal.returns-in-Some-clause-went
+returns-in-Some-clause-went c =
     let end : c.closed_list.result.end ≡ c.in_ok-item.item.end + 1 = ap (λ y. y.end) c.closed_list.ensures in
     let node : c.closed_list.result.node ≡ c.in_ok-item.item.node = ap (λ y. y.node) c.closed_list.ensures in
-    omega (arith, c.in-Some.ensures.within)
+    record {
+      further = omega (arith, c.items.invariant.past, c.in_ok-item.ensures.went.further);
+      within = omega (arith, c.in-Some.ensures.within);
+      numbered = omega (arith, c.items.invariant.numbered, c.in_ok-item.ensures.went.numbered);
+      few = omega (arith, c.items.invariant.few, c.in_ok-item.ensures.went.few);
+    }
 
-pub returns-in-Some-clause-node : goal.returns-in-Some-clause-node
-returns-in-Some-clause-node c = let end : c.closed_list.result.end ≡ c.in_ok-item.item.end + 1 = ap (λ y. y.end) c.closed_list.ensures in let node : c.closed_list.result.node ≡
-    c.in_ok-item.item.node = ap (λ y. y.node) c.closed_list.ensures in omega (arith, c.items.invariant.numbered, c.in_ok-item.ensures.node)
-
-pub returns-in-Some-clause-names : goal.returns-in-Some-clause-names
-returns-in-Some-clause-names c = let end : c.closed_list.result.end ≡ c.in_ok-item.item.end + 1 = ap (λ y. y.end) c.closed_list.ensures in let node : c.closed_list.result.node ≡
-    c.in_ok-item.item.node = ap (λ y. y.node) c.closed_list.ensures in omega (arith, c.items.invariant.few, c.in_ok-item.ensures.names)
-
-pub returns-in-Some-mark_at-2-clause-further : goal.returns-in-Some-mark_at-2-clause-further
-returns-in-Some-mark_at-2-clause-further c = let end : c.closed_list-in-Some-mark_at-2.result.end ≡ c.in_ok-item.item.end + 1 + 1 = ap (λ y. y.end) c.closed_list-in-Some-mark_at-2.ensures in
-    let node : c.closed_list-in-Some-mark_at-2.result.node ≡ c.in_ok-item.item.node = ap (λ y. y.node) c.closed_list-in-Some-mark_at-2.ensures in omega
-    (arith, c.items.invariant.past, c.in_ok-item.ensures.further)
-
-pub returns-in-Some-mark_at-2-clause-within : goal.returns-in-Some-mark_at-2-clause-within
-returns-in-Some-mark_at-2-clause-within c = let end : c.closed_list-in-Some-mark_at-2.result.end ≡ c.in_ok-item.item.end + 1 + 1 = ap (λ y. y.end) c.closed_list-in-Some-mark_at-2.ensures in
-    let node : c.closed_list-in-Some-mark_at-2.result.node ≡ c.in_ok-item.item.node = ap (λ y. y.node) c.closed_list-in-Some-mark_at-2.ensures in omega
-    (arith, c.in-Some-mark_at-2.ensures.within)
-
-pub returns-in-Some-mark_at-2-clause-node : goal.returns-in-Some-mark_at-2-clause-node
-returns-in-Some-mark_at-2-clause-node c = let end : c.closed_list-in-Some-mark_at-2.result.end ≡ c.in_ok-item.item.end + 1 + 1 = ap (λ y. y.end) c.closed_list-in-Some-mark_at-2.ensures in
-    let node : c.closed_list-in-Some-mark_at-2.result.node ≡ c.in_ok-item.item.node = ap (λ y. y.node) c.closed_list-in-Some-mark_at-2.ensures in omega
-    (arith, c.items.invariant.numbered, c.in_ok-item.ensures.node)
-
-pub returns-in-Some-mark_at-2-clause-names : goal.returns-in-Some-mark_at-2-clause-names
-returns-in-Some-mark_at-2-clause-names c = let end : c.closed_list-in-Some-mark_at-2.result.end ≡ c.in_ok-item.item.end + 1 + 1 = ap (λ y. y.end) c.closed_list-in-Some-mark_at-2.ensures in
-    let node : c.closed_list-in-Some-mark_at-2.result.node ≡ c.in_ok-item.item.node = ap (λ y. y.node) c.closed_list-in-Some-mark_at-2.ensures in omega
-    (arith, c.items.invariant.few, c.in_ok-item.ensures.names)
+pub returns-in-Some-mark_at-2-clause-went : goal.returns-in-Some-mark_at-2-clause-went
+returns-in-Some-mark_at-2-clause-went c =
+    let end : c.closed_list-in-Some-mark_at-2.result.end ≡ c.in_ok-item.item.end + 1 + 1 = ap (λ y. y.end) c.closed_list-in-Some-mark_at-2.ensures in
+    let node : c.closed_list-in-Some-mark_at-2.result.node ≡ c.in_ok-item.item.node = ap (λ y. y.node) c.closed_list-in-Some-mark_at-2.ensures in
+    record {
+      further = omega (arith, c.items.invariant.past, c.in_ok-item.ensures.went.further);
+      within = omega (arith, c.in-Some-mark_at-2.ensures.within);
+      numbered = omega (arith, c.items.invariant.numbered, c.in_ok-item.ensures.went.numbered);
+      few = omega (arith, c.items.invariant.few, c.in_ok-item.ensures.went.few);
+    }

@@ -17,7 +17,7 @@ use Rattle.shade_parse.proofs.members.parameters.Goals as goal
 pub returns-in-Some-clause-tree : goal.returns-in-Some-clause-tree
 returns-in-Some-clause-tree c = subst
     (λ r. ReadsOf (enclosed_seen member_seen) (Enclosed (MaybeListed MemberOf) sign.Close) 0 (lexemes c.args.pieces.now) c.args.names.now c.args.from c.args.node r)
-    (sym c.closed_list.ensures) (list_none members_paren c.new.ensures (within c.args.pieces.now c.args.from c.requires.within) c.in-Some.ensures.value)
+    (sym c.closed_list.ensures) (list_none members_paren c.new.ensures (within c.args.pieces.now c.args.from c.requires.can.within) c.in-Some.ensures.value)
 
 pub returns-clause-tree : goal.returns-clause-tree
 returns-clause-tree c = answers c.members.result
@@ -25,8 +25,8 @@ returns-clause-tree c = answers c.members.result
     (λ r. ReadsOf (enclosed_seen member_seen) (Enclosed (MaybeListed MemberOf) sign.Close) 0 (lexemes c.args.pieces.now) c.members.new.names c.args.from c.args.node r)
     (λ f. Faults (Enclosed (Listed MemberOf) sign.Close) 0 (lexemes c.args.pieces.now) c.args.names.now c.members.new.names c.args.from f)
     (λ f. Faults (Enclosed (MaybeListed MemberOf) sign.Close) 0 (lexemes c.args.pieces.now) c.args.names.now c.members.new.names c.args.from f)
-    (λ r x. list_some members_paren (within c.args.pieces.now c.args.from c.requires.within) c.in_default.ensures.value x)
+    (λ r x. list_some members_paren (within c.args.pieces.now c.args.from c.requires.can.within) c.in_default.ensures.value x)
     (λ f x. fault_on (Enclosed (MaybeListed MemberOf) sign.Close) (Enclosed (Listed MemberOf) sign.Close) 0 0 (lexemes c.args.pieces.now) c.args.names.now c.args.names.now
     c.members.new.names c.args.from c.args.from f (omega arith)
     (λ to g. maybe_stuck MemberOf sign.Close 0 members_paren.comma_low members_paren.closer_low members_paren.apart members_paren.no_item
-    (within c.args.pieces.now c.args.from c.requires.within) c.in_default.ensures.value g) x) c.members.ensures.tree
+    (within c.args.pieces.now c.args.from c.requires.can.within) c.in_default.ensures.value g) x) c.members.ensures.tree

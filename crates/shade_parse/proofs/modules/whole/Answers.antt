@@ -18,7 +18,7 @@ returns-in_err-read-clause-tree c = errs _ c.in_err-read.field-0.0 _ _ c.from_re
 
 pub directives-preserved : goal.directives-preserved
 directives-preserved c = directive_turn c.directives.invariant c.push.new.items c.in_ok-read.ensures.grows (c.directives-test.ensures.value.0 refl) c.in_ok-read.ensures.tree
-    c.in_ok-push.ensures c.in_ok-read.ensures.further c.in_ok-read.ensures.within c.in_ok-read.ensures.node c.in_ok-read.ensures.names
+    c.in_ok-push.ensures c.in_ok-read.ensures.went.further c.in_ok-read.ensures.went.within c.in_ok-read.ensures.went.numbered c.in_ok-read.ensures.went.few
 
 pub decls-init : goal.decls-init
 decls-init c = subst (λ ds. DeclTurn (lexemes c.args.pieces.now) (length c.args.pieces.now) c.directives.names ds c.new-decls.result c.directives.node c.directives.at c.directives.node)
@@ -28,7 +28,7 @@ pub returns-in_err-read-2-clause-tree : goal.returns-in_err-read-2-clause-tree
 returns-in_err-read-2-clause-tree c = errs _ c.in_err-read-2.field-0.0 _ _ c.from_residual-in_err-read-2.ensures.1 (decl_fault c.decls.invariant _ c.in_err-read-2.field-0.0 (below c.args.pieces.now c.decls.at (omega (arith, c.decls-test.true))) c.in_err-read-2.ensures.tree)
 
 pub decls-preserved : goal.decls-preserved
-decls-preserved c = decl_turn c.decls.invariant c.push-in-decls.new.items c.in_ok-read-2.ensures.grows c.in_ok-read-2.ensures.tree c.in_ok-push-2.ensures c.in_ok-read-2.ensures.within c.in_ok-read-2.ensures.node c.in_ok-read-2.ensures.names
+decls-preserved c = decl_turn c.decls.invariant c.push-in-decls.new.items c.in_ok-read-2.ensures.grows c.in_ok-read-2.ensures.tree c.in_ok-push-2.ensures c.in_ok-read-2.ensures.went.within c.in_ok-read-2.ensures.went.numbered c.in_ok-read-2.ensures.went.few
 
 pub returns-clause-tree : goal.returns-clause-tree
 returns-clause-tree c = subst (λ ds. IsOnly Module (tree (map (directive_shape c.decls.names) ds) (map (decl_shape c.decls.names) c.decls.decls)) (lexemes c.args.pieces.now))
