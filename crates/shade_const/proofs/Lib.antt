@@ -1,0 +1,3 @@
+pub mod FactLaws
+pub mod KindLaws
+pub mod SideLaws

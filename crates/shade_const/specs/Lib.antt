@@ -1,0 +1,3 @@
+pub mod Constant
+pub mod Facts
+pub mod Held
