@@ -11,18 +11,19 @@ ghost use Rattle.shade_cursor.specs.Shown.{lexemes};
 
 use crate::declarations::declaration;
 use crate::directives::directive;
-use shade_ast::{Keyword, Names, Tree};
+use shade_ast::{Keyword, NameKey, Names, Tree};
 use shade_cursor::part::Fault;
 use shade_cursor::piece::{Piece, key_at};
 use shade_parse_simple::items::push;
 use sqlite_items::Items;
 use std::alloc::Global;
 
-/// The tree of a whole text: directives, and then declarations, to the last token. Its nodes are numbered from 0 on.
+/// Reads the tree of a whole text: directives, and then declarations, to the last token. Its nodes are numbered from 0 on, and its names
+/// are hashed with a key.
 ///
 /// `Unexpected` where no text is spelled, with the number of the first token past which none goes on, or of the end;
 /// `NoMemory` where memory for the tree or its names is wanting.
-pub fn whole(alloc: Global, pieces: &[Piece]) -> Result<Tree, Fault>
+pub fn whole(alloc: Global, pieces: &[Piece], key: NameKey) -> Result<Tree, Fault>
     requires { length pieces.now < 2 ^ 32 }
     ensures tree { MatchResult result (λ t. IsOnly Module (tree_shape t) (lexemes pieces.now)) (λ f. Refused (lexemes pieces.now) f) }
     ensures known { IfOk result (λ t. tree_needs t ≤ length t.names) }
@@ -30,7 +31,7 @@ pub fn whole(alloc: Global, pieces: &[Piece]) -> Result<Tree, Fault>
     ensures few_names { IfOk result (λ t. length t.names ≤ length pieces.now) }
     ensures few_nodes { IfOk result (λ t. length (tree_nodes t) ≤ length pieces.now) }
 {
-    let mut names = Names::new(alloc);
+    let mut names = Names::new(alloc, key);
     let mut directives = Items::new(alloc);
     let mut decls = Items::new(alloc);
     let mut at = 0;

@@ -9,7 +9,7 @@ ghost use Rattle.shade_cursor.specs.Shown.{lexemes};
 
 use crate::modules;
 use crate::nesting::first_nested;
-use shade_ast::Tree;
+use shade_ast::{NameKey, Tree};
 use shade_cursor::depths::first_deep;
 use shade_cursor::fault::{Refusal, fault_of};
 use shade_cursor::part::Fault;
@@ -32,14 +32,14 @@ pub fn parse(alloc: Global, tokens: &Tokens, pairs: &TemplatePairs) -> Result<Tr
     let Ok(pieces) = pieces_of(alloc, tokens, pairs) else {
         return Err(SyntaxFault::NoMemory);
     };
-    match tree(alloc, &pieces) {
+    match tree(alloc, &pieces, NameKey::of(tokens.text())) {
         Ok(tree) => Ok(tree),
         Err(refusal) => Err(fault_of(tokens, refusal)),
     }
 }
 
 /// The tree that all tokens spell, of which none passes a depth.
-fn tree(alloc: Global, pieces: &[Piece]) -> Result<Tree, Refusal>
+fn tree(alloc: Global, pieces: &[Piece], key: NameKey) -> Result<Tree, Refusal>
     requires { length pieces.now ≤ 1048576 }
     ensures { MatchResult result (IsTree (lexemes pieces.now)) (IsRefused (lexemes pieces.now)) }
 {
@@ -47,10 +47,10 @@ fn tree(alloc: Global, pieces: &[Piece]) -> Result<Tree, Refusal>
         return Err(Refusal::NoMemory);
     };
     match passing {
-        None => uncut(modules::whole(alloc, pieces)),
+        None => uncut(modules::whole(alloc, pieces, key)),
         Some(deep) => {
             let front = &pieces[..deep + 1];
-            Err(cut(modules::whole(alloc, front), deep))
+            Err(cut(modules::whole(alloc, front, key), deep))
         }
     }
 }

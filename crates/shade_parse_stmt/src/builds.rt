@@ -18,7 +18,8 @@ use shade_base::Place;
 use shade_cursor::part::Fault;
 use shade_parse_simple::attributes::first_place;
 use shade_parse_simple::read::Read;
-use sqlite_items::Items;
+use sqlite_items::{Boxed, Items};
+use std::alloc::Global;
 
 /// A statement of a kind, with the next number.
 pub fn statement_of(kind: StmtKind, place: Place, end: usize, node: u32) -> Read<Stmt>
@@ -274,10 +275,39 @@ pub fn continuing_of(keyword: Place, attrs: Items<Attr>, body: LastBody) -> Cont
     }
 }
 
+/// A last `else` in a box of its own.
+pub fn boxed_otherwise(alloc: Global, value: Otherwise) -> Result<Boxed<Otherwise>, Fault>
+    ensures { MatchResult result (λ b. b ≡ value) (λ f. f ≡ Fault.NoMemory) }
+{
+    Boxed::new(alloc, value).map_err(|_| Fault::NoMemory)
+}
+
+/// A continuing part in a box of its own.
+pub fn boxed_continuing(alloc: Global, value: Continuing) -> Result<Boxed<Continuing>, Fault>
+    ensures { MatchResult result (λ b. b ≡ value) (λ f. f ≡ Fault.NoMemory) }
+{
+    Boxed::new(alloc, value).map_err(|_| Fault::NoMemory)
+}
+
+/// A list of one statement, with room for no other: most blocks that are nested deep hold one.
+fn first_statement(alloc: Global, item: Stmt) -> Result<Items<Stmt>, Fault>
+    ensures { MatchResult result (λ items. items ≡ item ∷ []) (λ f. f ≡ Fault.NoMemory) }
+{
+    let Ok(mut one) = Vec::with_capacity(alloc, 1) else {
+        return Err(Fault::NoMemory);
+    };
+    one.push(item).map_err(|_| Fault::NoMemory)?;
+    Ok(Items::from_vec(one))
+}
+
 /// One statement more.
-pub fn push_statement(items: &mut Items<Stmt>, item: Stmt) -> Result<(), Fault>
+pub fn push_statement(alloc: Global, items: &mut Items<Stmt>, item: Stmt) -> Result<(), Fault>
     ensures { MatchResult result (λ u. items.new ≡ items.old ++ item ∷ []) (λ f. f ≡ Fault.NoMemory) }
 {
+    if items.is_empty() {
+        *items = first_statement(alloc, item)?;
+        return Ok(());
+    }
     items.push(item).map_err(|_| Fault::NoMemory)
 }
 

@@ -4,7 +4,7 @@ use shade_ast::{
     Arm, Attr, Block, BreakIf, Clause, Continuing, Expr, Otherwise, Selector, Simple, Stmt, Update,
 };
 use shade_base::Place;
-use sqlite_items::Items;
+use sqlite_items::{Boxed, Items};
 
 /// A condition and the block behind it.
 #[derive(Drop)]
@@ -24,15 +24,15 @@ pub struct Body {
 #[derive(Drop)]
 pub struct Branches {
     pub arms: Items<Arm>,
-    pub otherwise: Option<Otherwise>,
+    pub otherwise: Option<Boxed<Otherwise>>,
 }
 
 /// What stands in the parentheses of a `for`.
 #[derive(Drop)]
 pub struct ForHeader {
-    pub initial: Option<Simple>,
+    pub initial: Option<Boxed<Simple>>,
     pub condition: Option<Expr>,
-    pub update: Option<Update>,
+    pub update: Option<Boxed<Update>>,
 }
 
 /// What follows the keyword of a `for`.
@@ -70,14 +70,14 @@ pub struct ClauseBody {
 pub struct LoopParts {
     pub inner: Items<Attr>,
     pub body: Items<Stmt>,
-    pub continuing: Option<Continuing>,
+    pub continuing: Option<Boxed<Continuing>>,
     pub end: Place,
 }
 
 /// What ends a `loop`: its continuing part, if it has one, and its `}`.
 #[derive(Drop)]
 pub struct LoopEnd {
-    pub continuing: Option<Continuing>,
+    pub continuing: Option<Boxed<Continuing>>,
     pub end: Place,
 }
 

@@ -18,9 +18,10 @@ use shade_ast::{Expr, Keyword, Names, Selector, Sign, Simple, Stmt, StmtKind, Up
 use shade_cursor::part::Fault;
 use shade_cursor::piece::{Piece, key_at, mark_at};
 use shade_parse_expr::parse::expression;
+use shade_parse_simple::items::boxed;
 use shade_parse_simple::read::{Read, refuse};
 use shade_parse_simple::updates::{simple, update};
-use sqlite_items::Items;
+use sqlite_items::{Boxed, Items};
 use std::alloc::Global;
 
 /// An expression, if one stands there, and the `;` behind it.
@@ -88,7 +89,7 @@ pub fn simple_until(
     names: &mut Names,
     from: usize,
     node: u32,
-) -> Result<Read<Option<Simple>>, Fault>
+) -> Result<Read<Option<Boxed<Simple>>>, Fault>
     requires can { CanRead pieces.now names.old from node }
     ensures tree { MatchResult result (λ r. ReadsOfBy maybe_simple_seen UntilSimple Anything (lexemes pieces.now) names.new from node r)
         (λ f. FaultsBy UntilSimple Anything (lexemes pieces.now) names.old names.new from f) }
@@ -104,8 +105,9 @@ pub fn simple_until(
     }
     let part = simple(alloc, pieces, names, from, node)?;
     let whole = before(pieces, part, Sign::Semicolon)?;
+    let simple = boxed(alloc, whole.tree)?;
     Ok(Read {
-        tree: Some(whole.tree),
+        tree: Some(simple),
         end: whole.end,
         node: whole.node,
     })
@@ -118,7 +120,7 @@ pub fn update_until(
     names: &mut Names,
     from: usize,
     node: u32,
-) -> Result<Read<Option<Update>>, Fault>
+) -> Result<Read<Option<Boxed<Update>>>, Fault>
     requires can { CanRead pieces.now names.old from node }
     ensures tree { MatchResult result (λ r. ReadsOfBy maybe_update_seen UntilUpdate Anything (lexemes pieces.now) names.new from node r)
         (λ f. FaultsBy UntilUpdate Anything (lexemes pieces.now) names.old names.new from f) }
@@ -134,8 +136,9 @@ pub fn update_until(
     }
     let part = update(alloc, pieces, names, from, node)?;
     let whole = before(pieces, part, Sign::Close)?;
+    let update = boxed(alloc, whole.tree)?;
     Ok(Read {
-        tree: Some(whole.tree),
+        tree: Some(update),
         end: whole.end,
         node: whole.node,
     })
@@ -186,7 +189,8 @@ fn simple_end(
     let part = simple(alloc, pieces, names, from, node)?;
     let whole = before(pieces, part, Sign::Semicolon)?;
     let place = simple_place(&whole.tree);
-    Ok(statement_of(StmtKind::Simple(whole.tree), place, whole.end, whole.node))
+    let simple = boxed(alloc, whole.tree)?;
+    Ok(statement_of(StmtKind::Simple(simple), place, whole.end, whole.node))
 }
 
 /// A statement that no attributes may stand before.
@@ -258,7 +262,7 @@ fn update_behind<K: Drop>(
     from: usize,
     node: u32,
     kept: K,
-) -> Result<(K, Read<Option<Update>>), Fault>
+) -> Result<(K, Read<Option<Boxed<Update>>>), Fault>
     requires can { CanRead pieces.now names.old from node }
     ensures tree { MatchResult result (λ r. ReadsOfBy maybe_update_seen UntilUpdate Anything (lexemes pieces.now) names.new from node r.1)
         (λ f. FaultsBy UntilUpdate Anything (lexemes pieces.now) names.old names.new from f) }

@@ -12,9 +12,9 @@ ghost use Rattle.shade_cursor.specs.Shown.{lexemes};
 ghost use Rattle.shade_parse_expr.specs.Reading.{CanRead, Went, WentOrStayed};
 
 use crate::builds::{
-    arm_of, block_of, block_statement, case_of, continuing_of, default_of, for_statement,
-    if_statement, loop_statement, otherwise_of, push_arm, push_clause, push_statement,
-    switch_statement, while_statement,
+    arm_of, block_of, block_statement, boxed_continuing, boxed_otherwise, case_of, continuing_of,
+    default_of, for_statement, if_statement, loop_statement, otherwise_of, push_arm, push_clause,
+    push_statement, switch_statement, while_statement,
 };
 use crate::hold::both;
 use crate::marks::{begins_clause, begins_compound, break_if_at, closes, is_mark};
@@ -29,7 +29,7 @@ use shade_cursor::piece::{Piece, key_at, mark_at};
 use shade_parse_expr::parse::expression;
 use shade_parse_simple::attributes::attributes;
 use shade_parse_simple::read::{Read, refuse};
-use sqlite_items::Items;
+use sqlite_items::{Boxed, Items};
 use std::alloc::Global;
 
 /// Reads the block that begins at a token, with the attributes before its `{`. `Unexpected` has the first token with which none goes on,
@@ -106,7 +106,7 @@ fn statements(
     let mut next = node;
     'list: while !closes(pieces, at) {
         let item = statement(alloc, pieces, names, at, next)?;
-        push_statement(&mut list, item.tree)?;
+        push_statement(alloc, &mut list, item.tree)?;
         at = item.end;
         next = item.node;
     }
@@ -237,9 +237,12 @@ fn branches(
     'arms: while let Some(else_keyword) = key_at(pieces, at, Keyword::Else) {
         let Some(if_keyword) = key_at(pieces, at + 1, Keyword::If) else {
             let body = block(alloc, pieces, names, at + 1, next)?;
-            let otherwise = Some(otherwise_of(else_keyword, body.tree));
+            let otherwise = boxed_otherwise(alloc, otherwise_of(else_keyword, body.tree))?;
             return Ok(Read {
-                tree: Branches { arms, otherwise },
+                tree: Branches {
+                    arms,
+                    otherwise: Some(otherwise),
+                },
                 end: body.end,
                 node: body.node,
             });
@@ -518,7 +521,7 @@ fn continuing(
     from: usize,
     node: u32,
     keyword: Place,
-) -> Result<Read<Continuing>, Fault>
+) -> Result<Read<Boxed<Continuing>>, Fault>
     requires can { CanRead pieces.now names.old from node }
     ensures tree { MatchResult result (λ r. ReadsOfBy continuing_seen (ContinuingRest keyword) Anything (lexemes pieces.now) names.new from node r)
         (λ f. FaultsBy (ContinuingRest keyword) Anything (lexemes pieces.now) names.old names.new from f) }
@@ -530,8 +533,9 @@ fn continuing(
         return Err(Fault::Unexpected(attrs.end));
     };
     let body = last_body(alloc, pieces, names, attrs.end + 1, attrs.node)?;
+    let part = boxed_continuing(alloc, continuing_of(keyword, attrs.tree, body.tree))?;
     Ok(Read {
-        tree: continuing_of(keyword, attrs.tree, body.tree),
+        tree: part,
         end: body.end,
         node: body.node,
     })
@@ -585,7 +589,7 @@ fn last_body(
             });
         }
         let item = statement(alloc, pieces, names, at, next)?;
-        push_statement(&mut statements, item.tree)?;
+        push_statement(alloc, &mut statements, item.tree)?;
         at = item.end;
         next = item.node;
     }

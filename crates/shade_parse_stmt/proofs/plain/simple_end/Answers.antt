@@ -1,6 +1,9 @@
-use Rattle.std.proofs.Common.{arith, ap, ◌≡◌, ◌+◌}
+use Rattle.std.proofs.Common.{arith, ap, sym, ◌∙◌, ◌≡◌, ◌+◌}
 use Rattle.std.proofs.lemmas.List.{length-map}
 use Rattle.shade_ast.specs.Statements.{SimpleStatement}
+use Rattle.shade_ast.specs.declared.stmt.Simple.{Simple}
+use Rattle.shade_parse_simple.specs.declared.read.Read.{Read}
+use Rattle.shade_parse_stmt.specs.Trees.{simple_first}
 use Rattle.shade_parse_stmt.specs.Follows.{Above, Anything}
 use Rattle.shade_parse_stmt.specs.StatementParts.{SimpleEnd}
 use Rattle.shade_cursor.specs.Shown.{lexeme, lexemes}
@@ -22,9 +25,11 @@ returns-in_err-whole-clause-tree c = errs _ c.in_err-whole.field-0.0 _ _ c.from_
     c.in_ok-part.ensures.tree (λ p is. c.in_err-whole.ensures.mark p is)))
 
 pub returns-clause-tree : goal.returns-clause-tree
-returns-clause-tree c = simple_end_tree (lexemes c.args.pieces.now) c.args.from (omega (arith, length-map c.args.pieces.now lexeme, c.requires.can.within)) _ c.args.node c.in_ok-part.part
-    c.in_ok-part.ensures.tree c.in_ok-whole.ensures.mark.0 c.in_ok-whole.ensures.mark.1 c.in_ok-whole.whole c.in_ok-whole.ensures.fault c.in_ok-whole.ensures.end c.in_ok-whole.ensures.node _
-    c.simple_place-place.ensures _ c.statement_of.ensures
+returns-clause-tree c =
+    let boxed : Read Simple = record { tree = c.in_ok-simple.simple; end = c.in_ok-whole.whole.end; node = c.in_ok-whole.whole.node } in
+    simple_end_tree (lexemes c.args.pieces.now) c.args.from (omega (arith, length-map c.args.pieces.now lexeme, c.requires.can.within)) _ c.args.node c.in_ok-part.part
+    c.in_ok-part.ensures.tree c.in_ok-whole.ensures.mark.0 c.in_ok-whole.ensures.mark.1 boxed (c.in_ok-simple.ensures ∙ c.in_ok-whole.ensures.fault) c.in_ok-whole.ensures.end c.in_ok-whole.ensures.node _
+    (c.simple_place-place.ensures ∙ ap simple_first (sym c.in_ok-simple.ensures)) _ c.statement_of.ensures
 
 pub returns-clause-went : goal.returns-clause-went
 returns-clause-went c =

@@ -1,6 +1,8 @@
-use Rattle.std.proofs.Common.{refl, arith}
+use Rattle.std.proofs.Common.{refl, arith, ◌∙◌}
 use Rattle.std.proofs.lemmas.List.{length-map}
 use Rattle.shade_ast.specs.Statements.{UpdateOf}
+use Rattle.shade_ast.specs.declared.stmt.Update.{Update}
+use Rattle.shade_parse_simple.specs.declared.read.Read.{Read}
 use Rattle.shade_parse_stmt.specs.Follows.{Above, Anything}
 use Rattle.shade_parse_stmt.specs.StatementParts.{UntilUpdate}
 use Rattle.shade_cursor.specs.Shown.{lexeme, lexemes}
@@ -27,9 +29,10 @@ returns-in_err-whole-clause-tree c = errs _ c.in_err-whole.field-0.0 _ _ c.from_
     c.args.node c.in_ok-part.part c.in_ok-part.ensures.tree (λ p is. c.in_err-whole.ensures.mark p is)))
 
 pub returns-clause-tree : goal.returns-clause-tree
-returns-clause-tree c = some_update_tree (lexemes c.args.pieces.now) c.args.from (omega (arith, length-map c.args.pieces.now lexeme, c.requires.can.within))
-    (λ p is. isnt c.if-is_mark.ensures.value (p, is)) _ c.args.node c.in_ok-part.part c.in_ok-part.ensures.tree c.in_ok-whole.ensures.mark.0 c.in_ok-whole.ensures.mark.1 c.in_ok-whole.whole
-    c.in_ok-whole.ensures.fault c.in_ok-whole.ensures.end c.in_ok-whole.ensures.node
+returns-clause-tree c =
+    let boxed : Read Update = record { tree = c.in_ok-update.update; end = c.in_ok-whole.whole.end; node = c.in_ok-whole.whole.node } in
+    some_update_tree (lexemes c.args.pieces.now) c.args.from (omega (arith, length-map c.args.pieces.now lexeme, c.requires.can.within))
+    (λ p is. isnt c.if-is_mark.ensures.value (p, is)) _ c.args.node c.in_ok-part.part c.in_ok-part.ensures.tree c.in_ok-whole.ensures.mark.0 c.in_ok-whole.ensures.mark.1 boxed (c.in_ok-update.ensures ∙ c.in_ok-whole.ensures.fault) c.in_ok-whole.ensures.end c.in_ok-whole.ensures.node
 
 pub returns-clause-went : goal.returns-clause-went
 returns-clause-went c = record {

@@ -1,5 +1,7 @@
-use Rattle.std.proofs.Common.{refl, ◌+◌, length, arith, ap, ◌≡◌}
+use Rattle.std.proofs.Common.{refl, ◌+◌, length, arith, ap, ◌∙◌, ◌≡◌}
 use Rattle.std.proofs.lemmas.List.{length-map}
+use Rattle.shade_ast.specs.declared.stmt.Continuing.{out-Continuing}
+use Rattle.shade_ast.specs.declared.stmt.Otherwise.{out-Otherwise}
 use Rattle.shade_ast.specs.Expressions.{Expression}
 use Rattle.shade_ast.specs.Repeats.{Many, Listed}
 use Rattle.shade_ast.specs.Statements.{Attribute, Statement, Selects, Block as BlockPhrase}
@@ -219,7 +221,7 @@ branches-returns-in_err-body-clause-tree t c = errs _ c.in_err-body.field-0.0 _ 
 pub branches-returns-in_default-key_at-clause-tree : goal.branches-returns-in_default-key_at-clause-tree
 branches-returns-in_default-key_at-clause-tree t c = else_tree (lexemes c.args.pieces.now) (length c.args.pieces.now) c.args.from
     (omega (arith, length-map c.args.pieces.now lexeme, c.requires.can.within)) _ _ c.args.node _ _ _ c.arms.invariant c.in-Some.else_keyword c.in-Some.ensures.value
-    (λ p is. c.in_default-key_at.ensures.value p is) _ c.in_ok-body.ensures.grows c.in_ok-body.body c.in_ok-body.ensures.tree _ c.otherwise_of.ensures
+    (λ p is. c.in_default-key_at.ensures.value p is) _ c.in_ok-body.ensures.grows c.in_ok-body.body c.in_ok-body.ensures.tree _ (ap out-Otherwise c.in_ok-otherwise.ensures ∙ c.otherwise_of.ensures)
 
 pub branches-returns-in_err-guarded-clause-tree : goal.branches-returns-in_err-guarded-clause-tree
 branches-returns-in_err-guarded-clause-tree t c = errs _ c.in_err-guarded.field-0.0 _ _ c.from_residual-in_err-guarded.ensures.1
@@ -342,7 +344,7 @@ continuing-returns-in_err-body-clause-tree t c = errs _ c.in_err-body.field-0.0 
 
 pub continuing-returns-clause-tree : goal.continuing-returns-clause-tree
 continuing-returns-clause-tree t c = part_tree c.args.keyword (lexemes c.args.pieces.now) c.args.from (omega (arith, length-map c.args.pieces.now lexeme, c.requires.can.within)) _ _ c.args.node
-    c.in_ok-attrs.attrs c.in_ok-attrs.ensures.tree _ c.in-Some.ensures.value c.in_ok-body.ensures.grows c.in_ok-body.body c.in_ok-body.ensures.tree _ c.continuing_of.ensures
+    c.in_ok-attrs.attrs c.in_ok-attrs.ensures.tree _ c.in-Some.ensures.value c.in_ok-body.ensures.grows c.in_ok-body.body c.in_ok-body.ensures.tree _ (ap out-Continuing c.in_ok-part.ensures ∙ c.continuing_of.ensures)
 
 pub loop_parts-returns-in_err-inner-clause-tree : goal.loop_parts-returns-in_err-inner-clause-tree
 loop_parts-returns-in_err-inner-clause-tree t c = errs _ c.in_err-inner.field-0.0 _ _ c.from_residual.ensures.1
@@ -724,6 +726,9 @@ loop_end-returns-clause-went t c = record {
 pub continuing-returns-in_err-body-clause-grows : goal.continuing-returns-in_err-body-clause-grows
 continuing-returns-in_err-body-clause-grows t c = grows_trans _ _ _ c.in_ok-attrs.ensures.grows c.in_err-body.ensures.grows
 
+pub continuing-returns-in_err-part-clause-grows : goal.continuing-returns-in_err-part-clause-grows
+continuing-returns-in_err-part-clause-grows t c = grows_trans _ _ _ c.in_ok-attrs.ensures.grows c.in_ok-body.ensures.grows
+
 pub continuing-returns-clause-grows : goal.continuing-returns-clause-grows
 continuing-returns-clause-grows t c = grows_trans _ _ _ c.in_ok-attrs.ensures.grows c.in_ok-body.ensures.grows
 
@@ -749,6 +754,9 @@ clauses-returns-in_err-push_clause-clause-grows t c = grows_trans _ _ _ c.list.i
 
 pub branches-returns-in_err-body-clause-grows : goal.branches-returns-in_err-body-clause-grows
 branches-returns-in_err-body-clause-grows t c = grows_trans _ _ _ c.arms.invariant.grows c.in_err-body.ensures.grows
+
+pub branches-returns-in_err-otherwise-clause-grows : goal.branches-returns-in_err-otherwise-clause-grows
+branches-returns-in_err-otherwise-clause-grows t c = grows_trans _ _ _ c.arms.invariant.grows c.in_ok-body.ensures.grows
 
 pub branches-returns-in_default-key_at-clause-grows : goal.branches-returns-in_default-key_at-clause-grows
 branches-returns-in_default-key_at-clause-grows t c = grows_trans _ _ _ c.arms.invariant.grows c.in_ok-body.ensures.grows
