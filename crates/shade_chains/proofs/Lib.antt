@@ -1,0 +1,5 @@
+mod CallLaws
+mod EventLaws
+mod KeepLaws
+mod OrderLaws
+mod TopLaws

@@ -1,0 +1,9 @@
+use Rattle.std.proofs.Common.{◌≡◌, ◌<◌, ℕ, length, Some}
+use Rattle.std.specs.Prelude.{slice_get}
+use Rattle.shade_chains.proofs.order.all_numbers.Given as goal
+
+abbrev pub invariant-loop-number : goal.invariant-loop-number
+invariant-loop-number l = record {
+  long : length l.numbers.items ≡ l.number;
+  each : (k : ℕ) → k < l.number → slice_get l.numbers.items k ≡ Some k;
+}

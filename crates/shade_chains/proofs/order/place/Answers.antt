@@ -1,0 +1,7 @@
+use Rattle.std.proofs.Common.{refl}
+use Rattle.shade_chains.proofs.OrderLaws.{place_more, in_rows}
+use Rattle.shade_chains.proofs.order.place.Goals as goal
+
+pub returns-clause-after : goal.returns-clause-after
+returns-clause-after c =
+    place_more _ c.args.order.now.items _ c.args.placed.now.items _ c.args.number c.requires.before (in_rows _ c.args.rows.now c.args.number c.requires.known) c.requires.ready refl c.in_ok-push.ensures.items

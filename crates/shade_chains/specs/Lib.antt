@@ -1,0 +1,4 @@
+pub mod Events
+pub mod Keeps
+pub mod Orders
+pub mod Tops
