@@ -1,0 +1,58 @@
+-- The answer about a tree: what its names mean and how grave violations are, or the first fault.
+use Rattle.std.specs.Prelude.{◌≡◌, ℕ, ◌⊎◌, List, [], Contains, Option, Some, None, Result, Ok, Err, ⊤}
+use Rattle.shade_base.specs.declared.severity.Severity.{Severity}
+use Rattle.shade_base.specs.declared.severity.Severity.TheVariants as severity
+use Rattle.shade_ast.specs.declared.tree.Tree.{Tree}
+use Rattle.shade_scope.specs.declared.fault.ScopeFault.{ScopeFault}
+use Rattle.shade_scope.specs.declared.fault.ScopeFault.TheVariants as fault
+use Rattle.shade_scope.specs.declared.scoped.Meaning.{Meaning}
+use Rattle.shade_scope.specs.declared.scoped.Scoped.{Scoped}
+use Rattle.shade_events.specs.Events.{tree_events}
+use Rattle.shade_scope.specs.Scopes.{links, resolved, start, told}
+use Rattle.shade_scope.specs.Conflicts.{conflicts}
+use Rattle.shade_scope.specs.Cycles.{IsCycle, heads_of}
+use Rattle.shade_scope.specs.Ranges.{blank, grades, outside}
+use Rattle.shade_scope.specs.Faults.{IsLeast}
+
+-- which declarations of the module use which
+abbrev pub tree_links : Tree → List (ℕ × ℕ)
+tree_links t = links start (tree_events t)
+
+-- the faults of single names, loops and severities
+abbrev pub tree_told : Tree → List ScopeFault
+tree_told t = told t.names start (tree_events t)
+
+abbrev pub tree_conflicts : Tree → List ScopeFault
+tree_conflicts t = conflicts [] (tree_events t)
+
+abbrev pub IsFault : Tree → ScopeFault → Type 0
+IsFault t f = (Contains (tree_told t) f ⊎ Contains (tree_conflicts t) f) ⊎ IsCycle (tree_links t) (heads_of t.decls) f
+
+-- what each use of a name means, by its node
+abbrev pub tree_uses : Tree → List (Option Meaning)
+tree_uses t = resolved t.names start (tree_events t) (blank None (tree_events t))
+
+-- how grave a violation is, by the node
+abbrev pub tree_filters : Tree → List Severity
+tree_filters t = grades t.names outside (tree_events t) (blank severity.Error (tree_events t))
+
+pub record IsScoped (t : Tree) (s : Scoped) : Type 0 where
+  pub none : (f : ScopeFault) → IsFault t f → ⊥
+  pub tree : s.tree ≡ t
+  pub uses : s.uses ≡ tree_uses t
+  pub filters : s.filters ≡ tree_filters t
+
+-- the first fault; want of memory may come in place of each answer
+abbrev pub IsRefused : Tree → ScopeFault → Type 0
+IsRefused t fault.NoMemory = ⊤
+IsRefused t (fault.Unknown place) = IsLeast (IsFault t) (Some (fault.Unknown place))
+IsRefused t (fault.Twice place) = IsLeast (IsFault t) (Some (fault.Twice place))
+IsRefused t (fault.Cycle place) = IsLeast (IsFault t) (Some (fault.Cycle place))
+IsRefused t (fault.EntryCalled place) = IsLeast (IsFault t) (Some (fault.EntryCalled place))
+IsRefused t (fault.ContinueSkips place) = IsLeast (IsFault t) (Some (fault.ContinueSkips place))
+IsRefused t (fault.BadSeverity place) = IsLeast (IsFault t) (Some (fault.BadSeverity place))
+IsRefused t (fault.Conflict place) = IsLeast (IsFault t) (Some (fault.Conflict place))
+
+abbrev pub IsResolved : Tree → Result Scoped ScopeFault → Type 0
+IsResolved t (Ok s) = IsScoped t s
+IsResolved t (Err f) = IsRefused t f
