@@ -7,6 +7,8 @@ mod ast;
 #[cfg(test)]
 mod base;
 #[cfg(test)]
+mod constants;
+#[cfg(test)]
 mod first;
 #[cfg(test)]
 mod job;
