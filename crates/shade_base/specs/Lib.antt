@@ -5,3 +5,4 @@ pub mod MemoryShelf
 pub mod MemorySink
 pub mod Lines
 pub mod Decimals
+pub mod Chooser

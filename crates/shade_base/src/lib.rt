@@ -1,7 +1,8 @@
 //! What every part of the checker speaks of: places in a text, decimal numbers, severities and the program's status; and what
-//! it reads from and writes to, a shelf of named texts and a sink of bytes, each with a count of its faults.
+//! it reads from and writes to, a shelf of named texts and a sink of bytes, each with a count of its faults; and functions that choose.
 #![tactic(auto)]
 
+mod chooser;
 mod decimal;
 mod lines;
 mod memory_shelf;
@@ -13,6 +14,7 @@ mod shelf;
 mod sink;
 mod status;
 
+pub use chooser::{Chooser, Choosing};
 pub use decimal::decimal_value;
 pub use lines::{place_after, place_at};
 pub use memory_shelf::MemoryShelf;

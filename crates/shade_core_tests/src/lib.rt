@@ -15,11 +15,15 @@ mod mem;
 #[cfg(test)]
 mod overload;
 #[cfg(test)]
+mod race;
+#[cfg(test)]
 mod reach;
 #[cfg(test)]
 mod report;
 #[cfg(test)]
 mod samples;
+#[cfg(test)]
+mod sched;
 #[cfg(test)]
 mod values;
 #[cfg(test)]

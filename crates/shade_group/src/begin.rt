@@ -1,4 +1,4 @@
-// A workgroup at its start.
+//! A workgroup at its start.
 
 ghost use Rattle.std.specs.Prelude.{◌≡◌, ℕ, ◌<◌, ◌≤◌, ◌*◌, ◌^◌, length, slice_index, IfOk};
 ghost use Rattle.shade_group.specs.Group.{begin as begin_of, builtins_of as builtins_at, IsRunnable, lane_count, members_from};
@@ -67,7 +67,7 @@ fn entry_lanes<'m>(
     requires allowed { IsAllowed «module».now inputs.now }
     requires runs { IsRunnable «module».now inputs.now.entry }
     ensures lanes { IfOk result (λ lanes. members_of lanes.items ≡ (begin_of «module».now inputs.now).members) }
-    ensures few { IfOk result (λ lanes. length lanes.items < 2 ^ 32) }
+    ensures few { IfOk result (λ lanes. length lanes.items ≤ 256) }
 {
     if let Some(function) = module.functions.get(inputs.entry as usize) {
         if let Some(size) = function.entry {
@@ -91,7 +91,7 @@ fn lanes_of<'m>(
     requires most { lane_count size ≤ 256 }
     requires parts { (n : ℕ) → n < lane_count size → (i : ℕ) → i < 3 → global_part (builtins_at inputs.now size n) i < 2 ^ 32 }
     ensures lanes { IfOk result (λ lanes. members_of lanes.items ≡ members_from inputs.now function.now size 0 (lane_count size)) }
-    ensures few { IfOk result (λ lanes. length lanes.items < 2 ^ 32) }
+    ensures few { IfOk result (λ lanes. length lanes.items ≤ 256) }
 {
     let count = size[0] * size[1] * size[2];
     let mut lanes = Vec::with_capacity(alloc, count as usize)?;

@@ -1,4 +1,4 @@
-// What a step did, and how a run stands.
+//! What a step did, and how a run stands.
 
 /// What a step of a workgroup did.
 #[derive(Clone, Copy, Debug, PartialEq, Eq)]

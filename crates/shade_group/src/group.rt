@@ -1,4 +1,4 @@
-// A workgroup between its steps.
+//! A workgroup between its steps.
 
 ghost use Rattle.std.specs.Prelude.{◌≡◌, ℕ, ◌<◌, ◌≤◌, length, take, slice_get, Some, IfOk, OnOk, OnErr};
 ghost use Rattle.std.specs.Option.{option_copied};
@@ -95,7 +95,8 @@ impl<'m> Group<'m> {
 
     /// How many lanes may step. Takes no memory.
     pub fn able_count(&self) -> u32
-        ensures { result ≡ length (able_lanes (machine_of self.now)) }
+        ensures able { result ≡ length (able_lanes (machine_of self.now)) }
+        ensures few { result ≤ 256 }
     {
         able_count(&self.workgroup.lanes)
     }

@@ -1,6 +1,6 @@
-// What is asked of all lanes, and done to all.
+//! What is asked of all lanes, and done to all.
 
-ghost use Rattle.std.specs.Prelude.{◌≡◌, ◌<◌, ◌^◌, length, map, slice_get, true, Some};
+ghost use Rattle.std.specs.Prelude.{◌≡◌, ◌<◌, ◌≤◌, ◌^◌, length, map, slice_get, true, Some};
 ghost use Rattle.std.specs.Cmp.Lexicographic.{pointwise};
 ghost use Rattle.shade_group.specs.Group.{able_from, raised as raised_of, least_unlike as least_unlike_of, same_instance as same_instance_of, unlike as unlike_of};
 ghost use Rattle.std.specs.List.{list_all};
@@ -88,7 +88,8 @@ pub(crate) fn least_unlike_at(lanes: &[Lane], number: u32) -> Option<u32>
 /// How many lanes may step.
 pub(crate) fn able_count(lanes: &[Lane]) -> u32
     requires { length lanes.now < 2 ^ 32 }
-    ensures { result ≡ length (able_from 0 (members_of lanes.now)) }
+    ensures able { result ≡ length (able_from 0 (members_of lanes.now)) }
+    ensures few { result ≤ length lanes.now }
 {
     let mut count = 0;
     for lane in lanes {

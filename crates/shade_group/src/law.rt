@@ -1,4 +1,4 @@
-// A law of the machine.
+//! A law of the machine.
 
 ghost use Rattle.shade_group.specs.Laws.{OverStutters};
 

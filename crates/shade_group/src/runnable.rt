@@ -1,4 +1,4 @@
-// Which entries the machine runs.
+//! Which entries the machine runs.
 
 ghost use Rattle.std.specs.Prelude.{◌↔◌, ◌≤◌, IsTrue, Some};
 ghost use Rattle.shade_group.specs.Group.{entry_runs, IsRunnable, lane_count};

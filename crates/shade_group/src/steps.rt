@@ -1,4 +1,4 @@
-// The step of a workgroup.
+//! The step of a workgroup.
 
 ghost use Rattle.std.specs.Prelude.{◌≡◌, ◌<◌, length, true, false, Some, None, IfOk, OnOk, OnErr, vec_len, vec_capacity};
 ghost use Rattle.shade_group.specs.Group.{event as event_of, ordered as ordered_of, parted, parted_event, released_event, settled, settled_event, step as step_of, release_by, stuttered, least_unlike, all_wait as all_wait_of, all_ended as all_ended_of};

@@ -1,6 +1,6 @@
-// A workgroup, also in the midst of a step.
+//! A workgroup, also in the midst of a step.
 
-ghost use Rattle.std.specs.Prelude.{◌<◌, ◌^◌, length};
+ghost use Rattle.std.specs.Prelude.{◌≤◌, length};
 
 use crate::event::Epochs;
 use shade_lane::{Instance, Lane};
@@ -16,5 +16,5 @@ pub(crate) struct Workgroup<'m> {
     pub(crate) diverged: Option<(u32, u32)>,
     pub(crate) steps: u64,
     pub(crate) stutters: u64,
-    ghost few: { length lanes.items < 2 ^ 32 },
+    ghost few: { length lanes.items ≤ 256 },
 }

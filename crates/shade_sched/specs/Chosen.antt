@@ -1,0 +1,62 @@
+-- Runs in which each step is of a lane that may step, chosen by its place among them.
+use Rattle.std.specs.Prelude.{◌≡◌, ℕ, suc, ◌<◌, ◌≤◌, List, [], ◌∷◌, length, slice_index}
+use Rattle.shade_group.specs.declared.event.RunEnd.{RunEnd}
+use Rattle.shade_group.specs.declared.event.RunEnd.TheVariants as run_end
+use Rattle.shade_group.specs.Group.{Machine, able_lanes, run_end_of, step}
+use Rattle.shade_sched.specs.declared.chosen.ChosenEnd.{ChosenEnd}
+use Rattle.shade_sched.specs.declared.chosen.ChosenEnd.TheVariants as chosen_end
+
+-- a step of the lane at this place of those that may step, by number
+abbrev pub chosen_step : Machine → ℕ → Machine
+chosen_step m pick = step m (slice_index (able_lanes m) pick)
+
+-- the steps that a list of such places makes
+abbrev pub chosen : Machine → List ℕ → Machine
+chosen m [] = m
+chosen m (pick ∷ picks) = chosen (chosen_step m pick) picks
+
+-- a place among the lanes that may step, in a run that is not over
+pub record IsAble (m : Machine) (pick : ℕ) : Type 0 where
+  pub running : run_end_of m ≡ run_end.Running
+  pub within : pick < length (able_lanes m)
+
+-- one step that a function chooses, which is asked with its number and how many lanes may step
+pub record IsPicked (gives : ℕ → ℕ → ℕ → Type 0) (k : ℕ) (old new : Machine) : Type 0 where
+  pub pick : ℕ
+  pub able : IsAble old pick
+  pub given : gives k (length (able_lanes old)) pick
+  pub made : new ≡ chosen_step old pick
+
+-- each place of the list is one of those at its step
+abbrev pub AreAble : Machine → List ℕ → Type 0
+AreAble m [] = Unit {0}
+AreAble m (pick ∷ picks) = IsAble m pick × AreAble (chosen_step m pick) picks
+
+-- each place of the list is what the function may give at its step, where the first has this number
+abbrev pub AreGiven : (ℕ → ℕ → ℕ → Type 0) → ℕ → Machine → List ℕ → Type 0
+AreGiven gives k m [] = Unit {0}
+AreGiven gives k m (pick ∷ picks) = gives k (length (able_lanes m)) pick × AreGiven gives (suc k) (chosen_step m pick) picks
+
+-- how the run ended, by how it stands: where it still runs, its limit is reached
+abbrev pub end_of : RunEnd → ChosenEnd
+end_of run_end.Running = chosen_end.Spent
+end_of run_end.Ended = chosen_end.Ended
+end_of (run_end.Diverged one other) = chosen_end.Diverged one other
+
+-- The run that the function chooses: its steps are those that the function gives, as many as the limit or fewer where the run is over.
+pub record IsChosenRun (gives : ℕ → ℕ → ℕ → Type 0) (limit : ℕ) (old new : Machine) (told : ChosenEnd) : Type 0 where
+  pub picks : List ℕ
+  pub able : AreAble old picks
+  pub given : AreGiven gives 0 old picks
+  pub made : new ≡ chosen old picks
+  pub few : length picks ≤ limit
+  pub all : run_end_of new ≡ run_end.Running → length picks ≡ limit
+  pub end : told ≡ end_of (run_end_of new)
+
+-- A beginning of such a run, before its last step.
+pub record IsCutRun (gives : ℕ → ℕ → ℕ → Type 0) (limit : ℕ) (old new : Machine) : Type 0 where
+  pub picks : List ℕ
+  pub able : AreAble old picks
+  pub given : AreGiven gives 0 old picks
+  pub made : new ≡ chosen old picks
+  pub few : length picks < limit

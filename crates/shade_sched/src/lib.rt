@@ -1,0 +1,10 @@
+//! Runs of a workgroup in which a function chooses, at each step, one of the lanes that may step.
+//!
+//! The definitions stand in `specs/Chosen.antt`.
+#![tactic(auto)]
+
+mod chosen;
+mod law;
+
+pub use chosen::{ChosenEnd, run};
+pub use law::chosen_lanes_act;
