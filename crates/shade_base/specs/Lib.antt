@@ -5,4 +5,3 @@ pub mod MemoryShelf
 pub mod MemorySink
 pub mod Lines
 pub mod Decimals
-pub mod Chooser

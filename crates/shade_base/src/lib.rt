@@ -1,8 +1,7 @@
 //! What every part of the checker speaks of: places in a text, decimal numbers, severities and the program's status; and what
-//! it reads from and writes to, a shelf of named texts and a sink of bytes, each with a count of its faults; and functions that choose.
+//! it reads from and writes to, a shelf of named texts and a sink of bytes, each with a count of its faults.
 #![tactic(auto)]
 
-mod chooser;
 mod decimal;
 mod lines;
 mod memory_shelf;
@@ -14,7 +13,6 @@ mod shelf;
 mod sink;
 mod status;
 
-pub use chooser::{Chooser, Choosing};
 pub use decimal::decimal_value;
 pub use lines::{place_after, place_at};
 pub use memory_shelf::MemoryShelf;

@@ -1,14 +1,14 @@
 //! Runs of two lanes in which a function chooses.
 
 ghost use Rattle.std.specs.Prelude.{◌≡◌, ℕ, ◌%◌, ◌≤◌};
-ghost use Rattle.shade_base.specs.Chooser.{Chooses};
+ghost use Rattle.shade_sched.specs.Choosers.{Chooses};
 
 use crate::group::begin;
 use crate::samples::{BarrierAt, branching};
-use shade_base::{Chooser, Choosing, Severity};
+use shade_base::Severity;
 use shade_core::CoreModule;
 use shade_group::Group;
-use shade_sched::{ChosenEnd, run};
+use shade_sched::{Chooser, Choosing, ChosenEnd, run};
 use shade_values::Op;
 use std::alloc::AllocError;
 use std::test::Fail;

@@ -1,2 +1,3 @@
+pub mod Choosers
 pub mod Chosen
 pub mod Laws

@@ -6,7 +6,7 @@ ghost use Rattle.shade_group.specs.Group.{run_end_of};
 ghost use Rattle.shade_group.specs.declared.event.RunEnd.TheVariants as run_end;
 ghost use Rattle.shade_sched.specs.Chosen.{end_of, IsChosenRun, IsCutRun, IsPicked};
 
-use shade_base::{Chooser, Choosing};
+use crate::chooser::{Chooser, Choosing};
 use shade_group::{Group, RunEnd};
 use std::alloc::AllocError;
 

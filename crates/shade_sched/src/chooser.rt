@@ -1,7 +1,7 @@
 //! A function that chooses, kept beside the fact that it may be asked and answers below the count.
 
 ghost use Rattle.std.specs.Prelude.{◌≡◌, ℕ, ◌<◌, ◌≤◌};
-ghost use Rattle.shade_base.specs.Chooser.{Chooses};
+ghost use Rattle.shade_sched.specs.Choosers.{Chooses};
 
 use std::marker::Model;
 
