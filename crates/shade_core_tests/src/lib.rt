@@ -25,6 +25,8 @@ mod samples;
 #[cfg(test)]
 mod sched;
 #[cfg(test)]
+mod shape;
+#[cfg(test)]
 mod values;
 #[cfg(test)]
 mod verdict;

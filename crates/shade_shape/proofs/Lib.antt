@@ -1,9 +1,13 @@
+mod BoundLaws
 mod DepthLaws
+mod DistinctLaws
 mod EndLaws
 mod FactLaws
 mod KeyLaws
 mod ScopeLaws
+mod ShapeLaws
 mod StandingLaws
 mod TableLaws
 mod Tells
 mod TypeLaws
+mod ValueLaws

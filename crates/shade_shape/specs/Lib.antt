@@ -1,4 +1,7 @@
+pub mod Bounds
 pub mod Depths
 pub mod Facts
+pub mod Laws
 pub mod Tables
+pub mod Values
 pub mod Within

@@ -1,13 +1,14 @@
 // The variables of a module.
 
-ghost use Rattle.std.specs.Prelude.{◌≡◌, ◌↔◌, IsTrue};
-ghost use Rattle.shade_core.specs.Roots.{IsPlaced, space_takes as space_takes_of};
+ghost use Rattle.std.specs.Prelude.{◌≡◌, ◌↔◌, All, IsTrue};
+ghost use Rattle.shade_core.specs.Roots.{IsPlaced, IsRoot, MayBegin, space_takes as space_takes_of};
 ghost use Rattle.shade_shape.specs.Facts.{facts_of};
-ghost use Rattle.shade_values.specs.Shape.{Shape};
+ghost use Rattle.shade_values.specs.Shape.{Shape, shape_of};
 
 use crate::facts::TypeFacts;
 use crate::signature::access_fits;
 use crate::types::Types;
+use crate::values::is_value_of;
 use shade_core::Root;
 use shade_values::{Access, Space};
 
@@ -36,4 +37,39 @@ pub fn is_placed(types: &Types, root: &Root) -> bool
         return false;
     }
     space_takes(root.space, root.access, types.facts(root.ty))
+}
+
+/// Whether a variable begins with a value that it may begin with.
+fn may_begin(types: &Types, root: &Root) -> bool
+    ensures { IsTrue result ↔ MayBegin (shape_of types.now root.now.ty) root.now.space root.now.initial }
+{
+    let Some(value) = &root.initial else {
+        return true;
+    };
+    match root.space {
+        Space::Private => is_value_of(types, root.ty, value),
+        Space::Function | Space::Workgroup | Space::Uniform | Space::Storage => false,
+    }
+}
+
+/// Whether a variable is one that a module may have. Takes no memory.
+pub fn is_root(types: &Types, root: &Root) -> bool
+    ensures { IsTrue result ↔ IsRoot types.now root.now }
+{
+    if !is_placed(types, root) {
+        return false;
+    }
+    may_begin(types, root)
+}
+
+/// Whether all variables are ones that a module may have. Takes no memory.
+pub fn are_roots(types: &Types, roots: &[Root]) -> bool
+    ensures { IsTrue result ↔ All (IsRoot types.now) roots.now }
+{
+    'roots: for root in roots {
+        if !is_root(types, root) {
+            return false;
+        }
+    }
+    true
 }
