@@ -1,6 +1,6 @@
 //! The definitions that reach a statement: of branches, loops, switches, parts, arguments, dead code, and of a large function.
 
-use crate::samples::{NOWHERE, branch, compare, statement};
+use shade_samples::{NOWHERE, branch, compare, statement};
 use shade_core::{
     Act, Argument, Base, CoreFunction, CoreParam, CoreStatement, Operand, SwitchPart, View,
     ViewStep,

@@ -1,6 +1,6 @@
 //! The nodes and edges of a graph, by name.
 
-use crate::samples::{BarrierAt, branching};
+use shade_samples::{BarrierAt, branching};
 use shade_base::Severity;
 use shade_graph::{FnGraph, Node, graph_of};
 use shade_values::Op;

@@ -1,6 +1,6 @@
 //! Violations, their sites and their paths.
 
-use crate::samples::{barrier, branch, compare, entry_of, only};
+use shade_samples::{barrier, branch, compare, entry_of, only};
 use shade_base::Severity;
 use shade_core::CoreModule;
 use shade_graph::Node;

@@ -1,4 +1,6 @@
-//! Core modules by hand: one entry of two lanes, with comparisons of the lane's index, branches and barriers.
+//! Core modules by hand: one entry of two lanes, with comparisons of the lane's index, branches and barriers. Tests of
+//! several crates stand on them.
+#![tactic(auto)]
 
 ghost use Rattle.std.specs.Prelude.{◌≡◌, [], true, is_some, ◌<◌, length, IfOk};
 ghost use Rattle.shade_mem.specs.Inputs.{size_of};

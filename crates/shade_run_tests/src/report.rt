@@ -1,9 +1,9 @@
 //! The report of a run.
 
 use crate::group::begin;
-use crate::samples::{BarrierAt, branching};
 use shade_base::Severity;
 use shade_report::run_text;
+use shade_samples::{BarrierAt, branching};
 use shade_values::Op;
 use std::test::Fail;
 

@@ -1,5 +1,5 @@
 use Rattle.std.proofs.Common.{zero, suc, arith, rules}
-use Rattle.shade_core_tests.proofs.lane.builtins.Goals as goal
+use Rattle.shade_run_tests.proofs.lane.builtins.Goals as goal
 
 pub returns : goal.returns
 returns c zero lt = search rules

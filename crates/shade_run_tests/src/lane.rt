@@ -4,10 +4,10 @@ ghost use Rattle.std.specs.Prelude.{◌≡◌, ℕ, ◌<◌, ◌^◌};
 ghost use Rattle.shade_lane.specs.Lane.{global_part};
 ghost use Rattle.shade_lane.specs.Members.{is_able as is_able_of};
 
-use crate::samples::{BarrierAt, branching};
 use shade_base::Severity;
 use shade_lane::{Builtins, Lane, LaneEvent, LaneState};
 use shade_mem::Memory;
+use shade_samples::{BarrierAt, branching};
 use shade_values::Op;
 use sqlite_items::Items;
 use std::test::Fail;

@@ -21,42 +21,109 @@ use TouchKind::{Atomic, Read, Write};
 
 /// Runs over a root of three words of workgroup memory and one of two words of storage, each with its races: a root, a word,
 /// and of both accesses the step, the lane and the kind.
-const RUNS: &[(&[Told], &[(u32, u32, (u64, u32, TouchKind), (u64, u32, TouchKind))])] = &[
+const RUNS: &[(
+    &[Told],
+    &[(u32, u32, (u64, u32, TouchKind), (u64, u32, TouchKind))],
+)] = &[
     (&[], &[]),
     // One lane by itself, reads alone, atomics alone, other words.
-    (&[Access(0, [0, 0, 3], Write), Access(0, [0, 0, 3], Read)], &[]),
-    (&[Access(0, [0, 0, 3], Read), Access(1, [0, 0, 3], Read)], &[]),
-    (&[Access(0, [0, 1, 1], Atomic), Access(1, [0, 1, 1], Atomic)], &[]),
-    (&[Access(0, [0, 0, 1], Write), Access(1, [0, 1, 2], Write)], &[]),
-    (&[Access(0, [0, 0, 1], Write), Access(1, [1, 0, 1], Write)], &[]),
+    (
+        &[Access(0, [0, 0, 3], Write), Access(0, [0, 0, 3], Read)],
+        &[],
+    ),
+    (
+        &[Access(0, [0, 0, 3], Read), Access(1, [0, 0, 3], Read)],
+        &[],
+    ),
+    (
+        &[Access(0, [0, 1, 1], Atomic), Access(1, [0, 1, 1], Atomic)],
+        &[],
+    ),
+    (
+        &[Access(0, [0, 0, 1], Write), Access(1, [0, 1, 2], Write)],
+        &[],
+    ),
+    (
+        &[Access(0, [0, 0, 1], Write), Access(1, [1, 0, 1], Write)],
+        &[],
+    ),
     // Each pair of kinds that races, in both orders.
-    (&[Access(0, [0, 0, 1], Write), Access(1, [0, 0, 1], Write)], &[(0, 0, (0, 0, Write), (1, 1, Write))]),
-    (&[Access(0, [0, 0, 1], Write), Access(1, [0, 0, 1], Read)], &[(0, 0, (0, 0, Write), (1, 1, Read))]),
-    (&[Access(0, [0, 0, 1], Read), Access(1, [0, 0, 1], Write)], &[(0, 0, (0, 0, Read), (1, 1, Write))]),
-    (&[Access(0, [1, 1, 1], Atomic), Access(1, [1, 0, 2], Read)], &[(1, 1, (0, 0, Atomic), (1, 1, Read))]),
-    (&[Access(0, [1, 1, 1], Write), Access(1, [1, 1, 1], Atomic)], &[(1, 1, (0, 0, Write), (1, 1, Atomic))]),
+    (
+        &[Access(0, [0, 0, 1], Write), Access(1, [0, 0, 1], Write)],
+        &[(0, 0, (0, 0, Write), (1, 1, Write))],
+    ),
+    (
+        &[Access(0, [0, 0, 1], Write), Access(1, [0, 0, 1], Read)],
+        &[(0, 0, (0, 0, Write), (1, 1, Read))],
+    ),
+    (
+        &[Access(0, [0, 0, 1], Read), Access(1, [0, 0, 1], Write)],
+        &[(0, 0, (0, 0, Read), (1, 1, Write))],
+    ),
+    (
+        &[Access(0, [1, 1, 1], Atomic), Access(1, [1, 0, 2], Read)],
+        &[(1, 1, (0, 0, Atomic), (1, 1, Read))],
+    ),
+    (
+        &[Access(0, [1, 1, 1], Write), Access(1, [1, 1, 1], Atomic)],
+        &[(1, 1, (0, 0, Write), (1, 1, Atomic))],
+    ),
     // The least second step, then the least first one; one race a word.
     (
-        &[Access(0, [0, 0, 1], Read), Access(1, [0, 0, 1], Read), Access(2, [0, 0, 1], Write), Access(3, [0, 0, 1], Write)],
+        &[
+            Access(0, [0, 0, 1], Read),
+            Access(1, [0, 0, 1], Read),
+            Access(2, [0, 0, 1], Write),
+            Access(3, [0, 0, 1], Write),
+        ],
         &[(0, 0, (0, 0, Read), (2, 2, Write))],
     ),
     (
-        &[Access(2, [0, 0, 1], Read), Access(1, [0, 0, 1], Read), Access(2, [0, 0, 1], Write)],
+        &[
+            Access(2, [0, 0, 1], Read),
+            Access(1, [0, 0, 1], Read),
+            Access(2, [0, 0, 1], Write),
+        ],
         &[(0, 0, (1, 1, Read), (2, 2, Write))],
     ),
     (
         &[Access(0, [0, 1, 2], Write), Access(1, [0, 0, 3], Write)],
-        &[(0, 1, (0, 0, Write), (1, 1, Write)), (0, 2, (0, 0, Write), (1, 1, Write))],
+        &[
+            (0, 1, (0, 0, Write), (1, 1, Write)),
+            (0, 2, (0, 0, Write), (1, 1, Write)),
+        ],
     ),
     // A barrier of the root's space parts accesses, one of the other space does not.
-    (&[Access(0, [0, 0, 1], Write), Barrier(Space::Workgroup), Access(1, [0, 0, 1], Read)], &[]),
     (
-        &[Access(0, [0, 0, 1], Write), Barrier(Space::Storage), Access(1, [0, 0, 1], Read)],
+        &[
+            Access(0, [0, 0, 1], Write),
+            Barrier(Space::Workgroup),
+            Access(1, [0, 0, 1], Read),
+        ],
+        &[],
+    ),
+    (
+        &[
+            Access(0, [0, 0, 1], Write),
+            Barrier(Space::Storage),
+            Access(1, [0, 0, 1], Read),
+        ],
         &[(0, 0, (0, 0, Write), (2, 1, Read))],
     ),
-    (&[Access(0, [1, 0, 1], Write), Barrier(Space::Storage), Access(1, [1, 0, 1], Read)], &[]),
     (
-        &[Access(0, [1, 0, 1], Write), Barrier(Space::Workgroup), Access(1, [1, 0, 1], Read)],
+        &[
+            Access(0, [1, 0, 1], Write),
+            Barrier(Space::Storage),
+            Access(1, [1, 0, 1], Read),
+        ],
+        &[],
+    ),
+    (
+        &[
+            Access(0, [1, 0, 1], Write),
+            Barrier(Space::Workgroup),
+            Access(1, [1, 0, 1], Read),
+        ],
         &[(1, 0, (0, 0, Write), (2, 1, Read))],
     ),
 ];

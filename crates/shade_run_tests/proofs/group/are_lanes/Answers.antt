@@ -4,7 +4,7 @@ use Rattle.std.specs.Prelude.{nat_lt, slice_get}
 use Rattle.std.specs.List.{list_all}
 use Rattle.shade_group.proofs.LaneLaws.{and_both}
 use Rattle.shade_group.specs.Seen.{machine_of}
-use Rattle.shade_core_tests.proofs.group.are_lanes.Goals as goal
+use Rattle.shade_run_tests.proofs.group.are_lanes.Goals as goal
 
 abbrev below_some : Option ℕ → ℕ → Bool
 below_some None count = true

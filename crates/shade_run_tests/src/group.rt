@@ -5,11 +5,11 @@ ghost use Rattle.std.specs.List.{list_all};
 ghost use Rattle.shade_group.specs.Seen.{machine_of};
 ghost use Rattle.shade_mem.specs.Inputs.{size_of};
 
-use crate::samples::{BarrierAt, branching};
 use shade_base::Severity;
 use shade_core::CoreModule;
 use shade_group::{Group, GroupEvent, RunEnd, is_runnable};
 use shade_mem::Inputs;
+use shade_samples::{BarrierAt, branching};
 use shade_values::Op;
 use sqlite_items::Items;
 use std::alloc::{AllocError, Global};

@@ -4,10 +4,10 @@ ghost use Rattle.std.specs.Prelude.{◌≡◌, ℕ, ◌%◌, ◌≤◌};
 ghost use Rattle.shade_sched.specs.Choosers.{Chooses};
 
 use crate::group::begin;
-use crate::samples::{BarrierAt, branching};
 use shade_base::Severity;
 use shade_core::CoreModule;
 use shade_group::Group;
+use shade_samples::{BarrierAt, branching};
 use shade_sched::{Chooser, Choosing, ChosenEnd, run};
 use shade_values::Op;
 use std::alloc::AllocError;
