@@ -1,8 +1,10 @@
 -- How control may go on after statements. (WGSL, "Statement Behavior Analysis".)
-use Rattle.std.specs.Prelude.{Bool, true, false, ◌&&◌, ◌||◌, not, Option, is_some}
+use Rattle.std.specs.Prelude.{ℕ, Bool, true, false, ◌&&◌, ◌||◌, not, List, [], ◌∷◌, ◌++◌, Option, None, Some, is_some, slice_get}
 use Rattle.shade_core.specs.declared.behaviour.Behaviour.{Behaviour}
+use Rattle.shade_core.specs.declared.module.CoreFunction.{CoreFunction}
+use Rattle.shade_core.specs.declared.module.Site.{Site}
 use Rattle.shade_core.specs.declared.statement.Operand.{Operand}
-use Rattle.shade_core.specs.Code.{Jump, Break, Continue, Return, Code, done, plain, jump, call, branch, switch, loop, no_part, part}
+use Rattle.shade_core.specs.Code.{Jump, Break, Continue, Return, Code, done, plain, jump, call, branch, switch, loop, no_part, part, code_of}
 
 abbrev pub set_of : Bool → Bool → Bool → Bool → Behaviour
 set_of n b c r = record { next = n; breaks = b; continues = c; returns = r }
@@ -66,3 +68,29 @@ loop_behaviour body continuing leave = after_loop (joined (behaviour body) (beha
 -- exactly Next
 abbrev pub goes_on : Behaviour → Bool
 goes_on b = b.next && not (b.breaks || (b.continues || b.returns))
+
+-- ---- the behaviours of all statements
+
+-- of a list, in structure order
+abbrev pub behaviours : Code → List Behaviour
+behaviours done = []
+behaviours (plain n act rest) = next_only ∷ behaviours rest
+behaviours (jump n act rest) = jump_behaviour act ∷ behaviours rest
+behaviours (call n g args rest) = next_only ∷ behaviours rest
+behaviours (branch n cond first second rest) = branch_behaviour first second ∷ behaviours first ++ behaviours second ++ behaviours rest
+behaviours (switch n selector parts rest) = switch_behaviour parts ∷ behaviours parts ++ behaviours rest
+behaviours (loop n body continuing leave rest) = loop_behaviour body continuing leave ∷ behaviours body ++ behaviours continuing ++ behaviours rest
+behaviours no_part = []
+behaviours (part n which keys fallback body others) = behaviours body ++ behaviours others
+
+-- of a function
+abbrev pub body_behaviours : CoreFunction → List Behaviour
+body_behaviours function = behaviours (code_of function.body)
+
+abbrev pub row_at : Option (List Behaviour) → ℕ → Option Behaviour
+row_at None number = None
+row_at (Some row) number = slice_get row number
+
+-- that of a statement, in lists by function
+abbrev pub behaviour_at : List (List Behaviour) → Site → Option Behaviour
+behaviour_at functions site = row_at (slice_get functions site.function) site.statement

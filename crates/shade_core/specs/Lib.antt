@@ -1,6 +1,9 @@
 pub mod Code
 pub mod Behaviour
+pub mod Control
+pub mod Places
 pub mod Atomics
+pub mod Rules
 pub mod Standing
 pub mod Types
 pub mod Roots

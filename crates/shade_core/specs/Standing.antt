@@ -1,13 +1,14 @@
 -- The statements of a function in structure order: a list from first to last, each If, Switch and Loop before its parts, a body
 -- before its continuing part.
-use Rattle.std.specs.Prelude.{ℕ, ◌+◌, ℤ, Bool, true, ◌&&◌, ◌==◌, Option, List, [], ◌∷◌, ◌++◌, map}
+use Rattle.std.specs.Prelude.{◌≡◌, ℕ, ◌+◌, ℤ, Bool, true, ◌&&◌, ◌==◌, Option, Some, List, [], ◌∷◌, ◌++◌, map, slice_get, IsTrue}
 use Rattle.shade_core.specs.declared.statement.Operand.{Operand}
 use Rattle.shade_core.specs.declared.statement.Argument.{Argument}
 use Rattle.shade_core.specs.declared.statement.Act.{Act, Act-F, out-Act}
 use Rattle.shade_core.specs.declared.statement.Act.TheOpen as act
+use Rattle.shade_core.specs.declared.module.CoreFunction.{CoreFunction}
 use Rattle.shade_core.specs.declared.statement.CoreStatement.{CoreStatement}
 use Rattle.shade_core.specs.declared.statement.SwitchPart.{SwitchPart, out-SwitchPart}
-use Rattle.shade_core.specs.Code.{Plain, Set, Load, Declare, Store, Atomic, Barrier, UniformLoad, Length, Jump, Break, Continue, Return, Code, done, plain, jump, call, branch, switch, loop, no_part, part}
+use Rattle.shade_core.specs.Code.{Plain, Set, Load, Declare, Store, Atomic, Barrier, UniformLoad, Length, Jump, Break, Continue, Return, Code, done, plain, jump, call, branch, switch, loop, no_part, part, code_of}
 
 -- a part of a switch, without its statements
 pub record Case : Type 0 where
@@ -82,3 +83,7 @@ by_itself s = standing s.number (head_of s.act)
 abbrev pub are_numbered : ℕ → List Standing → Bool
 are_numbered n [] = true
 are_numbered n (s ∷ statements) = (s.number == n) && are_numbered (n + 1) statements
+
+-- all statements of each function have the numbers from 0 on, one after another
+abbrev pub AreNumbered : List CoreFunction → Type 0
+AreNumbered functions = (k : ℕ) (f : CoreFunction) → slice_get functions k ≡ Some f → IsTrue (are_numbered 0 (statements (code_of f.body)))

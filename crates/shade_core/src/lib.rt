@@ -5,14 +5,20 @@
 #![tactic(auto)]
 
 mod behaviour;
+mod behaviours;
+mod control;
 mod module;
+mod rules;
 mod statement;
 
 pub use behaviour::{Behaviour, act_behaviour, list_behaviour};
+pub use behaviours::{BehaviourLists, Behaviours};
+pub use control::ControlFault;
 pub use module::{
     BuiltinInput, CoreFunction, CoreModule, CoreParam, CoreParams, Functions, Root, Roots, Site,
     TypeIds,
 };
+pub use rules::{all_have_rules, has_rules};
 pub use statement::{
     Act, Argument, Arguments, Base, CoreStatement, Keys, Operand, Operands, Statements, SwitchPart,
     SwitchParts, View, ViewStep, ViewSteps,

@@ -2,6 +2,7 @@
 
 use shade_samples::{BarrierAt, branching};
 use shade_base::Severity;
+use shade_core::has_rules;
 use shade_graph::{FnGraph, Node, graph_of};
 use shade_values::Op;
 use std::alloc::Global;
@@ -29,15 +30,16 @@ fn leads(rt: &impl Abort, graph: &FnGraph, from: Node, to: &[Node]) -> Result<()
 }
 
 /// The graph of `if (i < 1u) { workgroupBarrier(); }`.
-fn graph(alloc: Global) -> Result<FnGraph, Fail> {
+fn graph(rt: &impl Abort, alloc: Global) -> Result<FnGraph, Fail> {
     let module = branching(alloc, Op::Less, Severity::Error, BarrierAt::Within)?;
     let main = module.functions.as_slice().first().ok_or("no function")?;
+    assert!(rt; has_rules(main));
     Ok(graph_of(alloc, main)?)
 }
 
 #[test]
 fn the_size_of_a_graph(rt: HostRuntime) -> Result<(), Fail> {
-    let graph = graph(rt.alloc())?;
+    let graph = graph(&rt, rt.alloc())?;
     assert_eq!(rt; graph.nodes().len(), 17);
     assert_eq!(rt; graph.number_of(Node::Before(4)), None);
     for (from, to) in EDGES {

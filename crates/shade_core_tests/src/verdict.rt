@@ -2,7 +2,7 @@
 
 use shade_samples::{barrier, branch, compare, entry_of, only};
 use shade_base::Severity;
-use shade_core::CoreModule;
+use shade_core::{CoreModule, all_have_rules};
 use shade_graph::Node;
 use shade_values::Op;
 use shade_verdict::violations_of;
@@ -40,10 +40,12 @@ fn barriers_under_divergent_branches(rt: HostRuntime) -> Result<(), Fail> {
     let alloc = rt.alloc();
     for (count, want) in COUNTS {
         let module = divergent(alloc, *count)?;
+        assert!(rt; all_have_rules(&module));
         let found = violations_of(alloc, &module)?;
         assert_eq!(rt; found.len(), *want);
     }
     let module = divergent(alloc, 2)?;
+    assert!(rt; all_have_rules(&module));
     let found = violations_of(alloc, &module)?;
     let second = found.get(1).ok_or("one violation alone")?;
     assert_eq!(rt; second.site, 6);

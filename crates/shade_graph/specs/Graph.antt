@@ -1,6 +1,5 @@
 -- The nodes and edges of a function's uniformity graph. An edge from u to v means: where u must be uniform, v must be.
--- The rules are this project's, after WGSL, "Uniformity analysis". They are said of functions whose statements are Set, Barrier,
--- If and Return and that have no pointer parameters; each further kind of statement, and pointers, add their own cases.
+-- The rules are this project's, after WGSL, "Uniformity analysis". They are said of functions that have rules (`has_rules`).
 use Rattle.std.specs.Prelude.{◌≡◌, ℕ, ◌<◌, true, false, if◌then◌else◌, Option, Some, List, ◌∷◌, length, slice_get, IsSome}
 use Rattle.shade_base.specs.declared.severity.Severity.{Severity}
 use Rattle.shade_base.specs.declared.severity.Severity.TheVariants.{Error, Warning, Info}

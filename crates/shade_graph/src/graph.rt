@@ -1,7 +1,8 @@
 // The uniformity graph of a function, by the numbers of its nodes.
-ghost use Rattle.std.specs.Prelude.{◌≡◌, ℕ, ◌<◌, ◌^◌, ◌++◌, ◌∷◌, [], map, length, slice_get, Some, IfOk, IfSome, IfNone};
+ghost use Rattle.std.specs.Prelude.{◌≡◌, ℕ, ◌<◌, ◌^◌, ◌++◌, ◌∷◌, [], map, length, slice_get, true, Some, IfOk, IfSome, IfNone};
 ghost use Rattle.shade_graph.specs.Order.{IsAscending};
 ghost use Rattle.shade_core.specs.Code.{code_of};
+ghost use Rattle.shade_core.specs.Rules.{has_rules};
 ghost use Rattle.shade_reach.specs.Digraph.{JoinsNodes};
 ghost use Rattle.shade_graph.specs.declared.node.Node.TheVariants.{Start};
 ghost use Rattle.shade_graph.specs.Gathered.{edges_of};
@@ -237,11 +238,12 @@ fn numbered_edges(
     Ok(edges)
 }
 
-/// The uniformity graph of a function.
+/// The uniformity graph of a function that has rules.
 ///
 /// Takes time in the order of a sort of its nodes and edges, and memory for each of them. Nodes have numbers of 32 bits:
 /// where there are more of them than that, the answer is that of a graph too large for the memory.
 pub fn graph_of(alloc: Global, function: &CoreFunction) -> Result<FnGraph, AllocError>
+    requires { has_rules function.now ≡ true }
     ensures { IfOk result (λ graph. IsGraphOf function.now graph) }
 {
     if function.params.len() > u32::MAX as usize {

@@ -6,6 +6,7 @@ use Rattle.shade_base.specs.Counter.{one_more}
 use Rattle.shade_values.specs.declared.types.Space.{Space}
 use Rattle.shade_values.specs.declared.types.Space.TheVariants.{Workgroup, Storage}
 use Rattle.shade_core.specs.Code.{code_of}
+use Rattle.shade_core.specs.Rules.{has_rules}
 use Rattle.shade_core.specs.declared.module.CoreFunction.{CoreFunction}
 use Rattle.shade_core.specs.declared.module.CoreModule.{CoreModule}
 use Rattle.shade_mem.specs.declared.inputs.Inputs.{Inputs}
@@ -13,7 +14,7 @@ use Rattle.shade_mem.specs.Inputs.{start_words}
 use Rattle.shade_lane.specs.declared.builtins.Builtins.{Builtins}
 use Rattle.shade_lane.specs.declared.state.LaneState.{LaneState}
 use Rattle.shade_lane.specs.declared.state.LaneState.TheVariants.{Able, Waiting, Ended}
-use Rattle.shade_lane.specs.Lane.{runs, ends_in_return}
+use Rattle.shade_lane.specs.Lane.{ends_in_return}
 use Rattle.shade_lane.specs.Members.{Member, Arrival, arrival, moved, freed, begin_member, is_able, is_waiting, is_ended}
 use Rattle.shade_group.specs.declared.event.Epochs.{Epochs}
 use Rattle.shade_group.specs.declared.event.GroupEvent.{GroupEvent}
@@ -271,17 +272,16 @@ begin shader inputs = record {
   stutters = 0;
 }
 
--- ---- what has a case
+-- ---- which entries run
 
 abbrev pub sized_runs : CoreFunction → Option (List ℕ) → Type 0
 sized_runs function None = ⊥
-sized_runs function (Some size) = (1 ≤ lane_count size) × (lane_count size ≤ 256) × (runs (code_of function.body) ≡ true) × (ends_in_return (code_of function.body) ≡ true)
+sized_runs function (Some size) = (1 ≤ lane_count size) × (lane_count size ≤ 256) × (has_rules function ≡ true) × (ends_in_return (code_of function.body) ≡ true)
 
 abbrev pub entry_runs : Option CoreFunction → Type 0
 entry_runs None = ⊥
 entry_runs (Some function) = sized_runs function function.entry
 
--- A function that the machine runs: an entry of 1 to 256 lanes, whose statements and operations have cases, and whose last statement is
--- a Return.
+-- A function that the machine runs: an entry of 1 to 256 lanes that has rules, and whose last statement is a Return.
 pub record IsRunnable (shader : CoreModule) (entry : ℕ) : Type 0 where
   pub body : entry_runs (slice_get shader.functions entry)

@@ -1,6 +1,7 @@
 //! A workgroup at its start.
 
-ghost use Rattle.std.specs.Prelude.{◌≡◌, ℕ, ◌<◌, ◌≤◌, ◌*◌, ◌^◌, length, slice_index, IfOk};
+ghost use Rattle.std.specs.Prelude.{◌≡◌, ℕ, ◌<◌, ◌≤◌, ◌*◌, ◌^◌, length, slice_index, true, IfOk};
+ghost use Rattle.shade_core.specs.Rules.{has_rules};
 ghost use Rattle.shade_group.specs.Group.{begin as begin_of, builtins_of as builtins_at, IsRunnable, lane_count, members_from};
 ghost use Rattle.shade_group.specs.Inside.{inside, members_of};
 ghost use Rattle.shade_lane.specs.Lane.{global_part};
@@ -18,7 +19,7 @@ impl<'m> Group<'m> {
     ghost use Rattle.shade_group.specs.Seen.{machine_of};
 
     /// The lanes of an entry before their first step. The inputs are those that a job may hand in, and the entry has
-    /// at most 256 lanes and no statement without a case.
+    /// 1 to 256 lanes, has rules and ends in a return.
     pub fn begin(
         alloc: Global,
         module: &'m CoreModule,
@@ -84,6 +85,7 @@ fn lanes_of<'m>(
     size: [u32; 3],
     inputs: &Inputs,
 ) -> Result<Vec<Lane<'m>>, AllocError>
+    requires rules { has_rules function.now ≡ true }
     requires flat { slice_index size 0 * slice_index size 1 ≤ 256 }
     requires first { 0 < slice_index size 0 }
     requires second { 0 < slice_index size 1 }

@@ -3,11 +3,11 @@
 ghost use Rattle.std.specs.Prelude.{◌↔◌, ◌≤◌, IsTrue, Some};
 ghost use Rattle.shade_group.specs.Group.{entry_runs, IsRunnable, lane_count};
 
-use shade_core::{CoreFunction, CoreModule};
-use shade_lane::{ends_in_return, runs};
+use shade_core::{CoreFunction, CoreModule, has_rules};
+use shade_lane::ends_in_return;
 
-/// Whether the machine runs the function with this number: an entry of 1 to 256 lanes, whose statements and operations
-/// have cases, and whose last statement is a return. Takes no memory.
+/// Whether the machine runs the function with this number: an entry of 1 to 256 lanes that has rules, and whose last
+/// statement is a return. Takes no memory.
 pub fn is_runnable(module: &CoreModule, entry: u32) -> bool
     ensures { IsTrue result ↔ IsRunnable «module».now entry }
 {
@@ -22,7 +22,7 @@ fn function_runs(function: &CoreFunction) -> bool
     ensures { IsTrue result ↔ entry_runs (Some function.now) }
 {
     match function.entry {
-        Some(size) => { has_lanes(size) && runs(&function.body) && ends_in_return(&function.body) }
+        Some(size) => { has_lanes(size) && has_rules(function) && ends_in_return(&function.body) }
         None => false,
     }
 }

@@ -1,7 +1,6 @@
 -- A lane by itself: what it has left, where it stands, what it holds, and its step.
--- Kinds of statement other than Set, If, Barrier and Return have no case yet: a lane passes over them. `runs` says which lists of
--- statements have cases alone.
-use Rattle.std.specs.Prelude.{ℕ, ◌+◌, ◌*◌, Bool, true, false, ◌&&◌, not, List, [], ◌∷◌, map, Option, Some, None, if◌then◌else◌, ◌==◌, pos, slice_get, slice_index, is_some}
+-- It is said of statements that have rules (`has_rules`); a lane would pass over others.
+use Rattle.std.specs.Prelude.{ℕ, ◌+◌, ◌*◌, Bool, true, false, not, List, [], ◌∷◌, map, Option, Some, None, if◌then◌else◌, ◌==◌, pos, slice_get, slice_index, is_some}
 use Rattle.std.specs.Option.{option_map, option_to_list}
 use Rattle.std.specs.List.{list_all, flat_map}
 use Rattle.std.specs.Ordering.{int_eq}
@@ -11,7 +10,6 @@ use Rattle.shade_values.specs.declared.value.Value.{Value, Value-F, out-Value}
 use Rattle.shade_values.specs.declared.value.Value.TheVariants.{One, Many}
 use Rattle.shade_values.specs.declared.value.Value.TheOpen as value
 use Rattle.shade_values.specs.declared.op.Op.{Op}
-use Rattle.shade_values.specs.declared.op.Op.TheVariants.{AtomicLoad, AtomicStore, AtomicAdd, AtomicSub, AtomicMax, AtomicMin, AtomicAnd, AtomicOr, AtomicXor, AtomicExchange, AtomicCompareExchangeWeak}
 use Rattle.shade_values.specs.Apply.{Apply}
 use Rattle.shade_core.specs.declared.module.BuiltinInput.{BuiltinInput}
 use Rattle.shade_core.specs.declared.module.BuiltinInput.TheVariants.{LocalId, LocalIndex, GlobalId, GroupId, GroupCount}
@@ -19,7 +17,7 @@ use Rattle.shade_core.specs.declared.module.CoreParam.{CoreParam}
 use Rattle.shade_core.specs.declared.module.CoreParam.TheVariants as parameter
 use Rattle.shade_core.specs.declared.statement.Operand.{Operand}
 use Rattle.shade_core.specs.declared.statement.Operand.TheVariants.{Constant, Param, Temp}
-use Rattle.shade_core.specs.Code.{Plain, Set, Barrier, Jump, Break, Continue, Return, Code, done, plain, jump, call, branch, switch, loop, no_part, part}
+use Rattle.shade_core.specs.Code.{Plain, Set, Jump, Break, Continue, Return, Code, done, plain, jump, call, branch, switch, loop, no_part, part}
 use Rattle.shade_lane.specs.declared.builtins.Builtins.{Builtins}
 
 -- ---- where a lane stands
@@ -200,39 +198,7 @@ begin body = record { place = next (seq body halt); values = λ n. None }
 abbrev pub step : List (Option Value) → Lane → Lane
 step params lane = record { place = next (go (test_value params lane.values (tested lane.place)) lane.place); values = values_after params lane.values (does lane.place) }
 
--- ---- the statements that have a case
-
--- the operations on an atomic in memory, which are none on values alone. (WGSL, "Atomic Built-in Functions".)
-abbrev pub is_atomic : Op → Bool
-is_atomic AtomicLoad = true
-is_atomic AtomicStore = true
-is_atomic AtomicAdd = true
-is_atomic AtomicSub = true
-is_atomic AtomicMax = true
-is_atomic AtomicMin = true
-is_atomic AtomicAnd = true
-is_atomic AtomicOr = true
-is_atomic AtomicXor = true
-is_atomic AtomicExchange = true
-is_atomic AtomicCompareExchangeWeak = true
-is_atomic _ = false
-
-abbrev pub act_runs : Plain → Bool
-act_runs (Set op args) = not (is_atomic op)
-act_runs (Barrier space severity) = true
-act_runs _ = false
-
-abbrev pub jump_runs : Jump → Bool
-jump_runs (Return value) = true
-jump_runs _ = false
-
--- a list that has Set, If, Barrier and Return alone, and no atomic operation
-abbrev pub runs : Code → Bool
-runs done = true
-runs (plain n act rest) = act_runs act && runs rest
-runs (jump n act rest) = jump_runs act && runs rest
-runs (branch n cond first second rest) = runs first && (runs second && runs rest)
-runs _ = false
+-- ---- the last statement
 
 -- a list whose last statement is a Return
 abbrev pub ends_in_return : Code → Bool

@@ -2,6 +2,7 @@
 
 ghost use Rattle.std.specs.Prelude.{◌≡◌, ℕ, ◌<◌, ◌^◌, [], ◌∷◌, length, map, slice_get, true, Some, IfOk, OnOk, OnErr};
 ghost use Rattle.shade_core.specs.declared.module.CoreFunction.{CoreFunction as TheFunction};
+ghost use Rattle.shade_core.specs.Rules.{has_rules};
 ghost use Rattle.shade_lane.specs.Lane.{applied as applied_of, global_part, is_true as is_true_of, operand_value as value_of, put};
 ghost use Rattle.shade_lane.specs.Members.{begin_member, freed, is_able, is_waiting, moved};
 ghost use Rattle.shade_lane.specs.declared.state.LaneState.TheVariants.{Waiting as waiting};
@@ -51,8 +52,8 @@ impl<'m> Model for Lane<'m> {
 }
 
 impl<'m> Lane<'m> {
-    /// The lane of an entry of a module at its start. `builtins` are its surroundings, in which the lane's position
-    /// among all lanes is below 2^32 in each direction.
+    /// The lane of an entry of a module at its start. The entry has rules; `builtins` are its surroundings, in which the
+    /// lane's position among all lanes is below 2^32 in each direction.
     pub fn begin(
         alloc: Global,
         module: &'m CoreModule,
@@ -60,6 +61,7 @@ impl<'m> Lane<'m> {
         builtins: &Builtins,
     ) -> Result<Lane<'m>, AllocError>
         requires entry { entry < length «module».now.functions }
+        requires rules { (f : TheFunction) → slice_get «module».now.functions entry ≡ Some f → has_rules f ≡ true }
         requires builtins { (i : ℕ) → i < 3 → global_part builtins.now i < 2 ^ 32 }
         ensures { IfOk result (λ lane. (f : TheFunction) → slice_get «module».now.functions entry ≡ Some f → member_of lane ≡ begin_member entry f builtins.now) }
     {
@@ -67,14 +69,15 @@ impl<'m> Lane<'m> {
         Lane::of(alloc, &functions[entry as usize], entry, builtins)
     }
 
-    /// The lane of an entry at its start.
+    /// The lane of an entry that has rules at its start.
     pub fn of(
         alloc: Global,
         function: &'m CoreFunction,
         entry: u32,
         builtins: &Builtins,
     ) -> Result<Lane<'m>, AllocError>
-        requires { (i : ℕ) → i < 3 → global_part builtins.now i < 2 ^ 32 }
+        requires rules { has_rules function.now ≡ true }
+        requires builtins { (i : ℕ) → i < 3 → global_part builtins.now i < 2 ^ 32 }
         ensures { IfOk result (λ lane. member_of lane ≡ begin_member entry function.now builtins.now) }
     {
         Ok(Lane {

@@ -11,6 +11,6 @@ mod state;
 mod values;
 
 pub use builtins::Builtins;
-pub use cases::{ends_in_return, runs};
+pub use cases::ends_in_return;
 pub use lane::{Lane, LaneEvent};
 pub use state::{Instance, LaneState};

@@ -24,13 +24,14 @@ impl Model for Memory {
 }
 
 impl Memory {
-    /// The memory at the start of a run, of a module without roots.
+    /// The memory at the start of a run, of a module without roots. There is one list of words for each root.
     pub fn begin(
         alloc: Global,
         module: &CoreModule,
         words: &RootWords,
     ) -> Result<Memory, AllocError>
-        requires { «module».now.roots ≡ [] }
+        requires rootless { «module».now.roots ≡ [] }
+        requires words { length words.now ≡ length «module».now.roots }
         ensures { IfOk result (λ memory. memory ≡ start_words «module».now words.now) }
     {
         let mut roots = Vec::with_capacity(alloc, module.roots.len())?;

@@ -2,6 +2,7 @@
 
 ghost use Rattle.std.specs.Prelude.{◌≡◌, ◌++◌, ◌==◌, map, count_by, codes, unwrap_or, [], IfOk, string_bytes, slice_get};
 ghost use Rattle.std.specs.List.{flat_map};
+ghost use Rattle.shade_core.specs.Standing.{AreNumbered};
 ghost use Rattle.shade_graph.specs.Order.{severity_rank};
 ghost use Rattle.shade_report.specs.Sources.{list_sources};
 ghost use Rattle.shade_report.specs.Labels.{label};
@@ -187,12 +188,13 @@ fn sources_at(all: &[Vec<Source>], number: u32) -> &[Source]
 }
 
 /// The report of a check: the verdict and the counts on the first line, then each violation with its path. The violations
-/// are those of the module.
+/// are those of the module, whose statements are numbered in structure order: a violation's site is found by its place there.
 pub fn check_text(
     alloc: Global,
     checked: &CoreModule,
     violations: &[Violation],
 ) -> Result<Vec<u8>, AllocError>
+    requires { AreNumbered checked.now.functions }
     ensures { IfOk result (λ text. text.items ≡ check_report checked.now.functions violations.now) }
 {
     let functions = checked.functions.as_slice();

@@ -1,10 +1,13 @@
 //! The steps of one lane.
 
-ghost use Rattle.std.specs.Prelude.{◌≡◌, ℕ, ◌<◌, ◌^◌};
+ghost use Rattle.std.specs.Prelude.{◌≡◌, ℕ, ◌<◌, ◌^◌, slice_get, true, Some};
+ghost use Rattle.shade_core.specs.declared.module.CoreFunction.{CoreFunction as TheFunction};
+ghost use Rattle.shade_core.specs.Rules.{has_rules as has_rules_of};
 ghost use Rattle.shade_lane.specs.Lane.{global_part};
 ghost use Rattle.shade_lane.specs.Members.{is_able as is_able_of};
 
 use shade_base::Severity;
+use shade_core::{CoreModule, has_rules};
 use shade_lane::{Builtins, Lane, LaneEvent, LaneState};
 use shade_mem::Memory;
 use shade_samples::{BarrierAt, branching};
@@ -23,6 +26,16 @@ fn builtins(number: u8) -> Builtins
         group: [0, 0, 0],
         groups: [1, 1, 1],
         size: [2, 1, 1],
+    }
+}
+
+/// Whether the first function of a module has rules.
+fn entry_has_rules(checked: &CoreModule) -> bool
+    ensures { result ≡ true → (f : TheFunction) → slice_get checked.now.functions 0 ≡ Some f → has_rules_of f ≡ true }
+{
+    match checked.functions.get(0) {
+        Some(function) => has_rules(function),
+        None => true,
     }
 }
 
@@ -47,6 +60,7 @@ fn lanes_of_two_parts(rt: HostRuntime) -> Result<(), Fail> {
     for (op, number, third) in THIRD {
         let module = branching(alloc, *op, Severity::Warning, BarrierAt::Within)?;
         let mut memory = Memory::begin(alloc, &module, &Items::new(alloc))?;
+        assert!(rt; entry_has_rules(&module));
         let mut lane = Lane::begin(alloc, &module, 0, &builtins(*number))?;
         for event in [LaneEvent::Ran(None), LaneEvent::Ran(None), *third] {
             assert!(rt; is_able(&lane));

@@ -1,7 +1,7 @@
 -- Sets of ways on, and tests.
-use Rattle.std.proofs.Common.{◌≡◌, Bool, true, false, not, ◌&&◌, ◌||◌, refl, ap}
+use Rattle.std.proofs.Common.{◌≡◌, Bool, true, false, not, ◌&&◌, ◌||◌, refl, ap, sym, ◌∙◌}
 use Rattle.shade_core.specs.declared.behaviour.Behaviour.{Behaviour}
-use Rattle.shade_core.specs.Behaviour.{joined, in_turn_by, in_turn, goes_on}
+use Rattle.shade_core.specs.Behaviour.{set_of, joined, in_turn_by, in_turn, next_only, goes_on}
 
 pub false_true : {A : Type 0} (x : Bool) → x ≡ false → x ≡ true → A
 false_true x f t = let no_one : ⊥ = cc (f, t) in absurd no_one

@@ -1,19 +1,19 @@
 -- What the rows of a graph say of a marking of nodes as low.
-use Rattle.std.proofs.Common.{◌≡◌, ℕ, Bool, true, false, Option, Some, None, refl}
+use Rattle.std.proofs.Common.{◌≡◌, ℕ, Bool, true, false, Option, Some, None, refl, sym, ◌∙◌}
 use Rattle.std.specs.Prelude.{if◌then◌else◌}
 use Rattle.shade_core.specs.declared.statement.Operand.{Operand}
 use Rattle.shade_core.specs.declared.statement.Operand.TheVariants as operand
 use Rattle.shade_core.specs.declared.module.CoreFunction.{CoreFunction}
 use Rattle.shade_core.specs.Code.{Plain, Jump, Code, done, plain, jump, call, branch, switch, loop, no_part, part}
 use Rattle.shade_core.specs.Behaviour.{branch_behaviour, goes_on}
-use Rattle.shade_lane.specs.Lane.{runs}
+use Rattle.shade_core.specs.Rules.{have_rules}
 use Rattle.shade_graph.specs.declared.node.Node.{Node}
 use Rattle.shade_graph.specs.declared.node.Node.TheVariants.{Param, Before, After, Part, Value}
 use Rattle.shade_graph.specs.Graph
 use Rattle.shade_graph.specs.Graph.{IsNode, Stands, Row, end_of}
 use Rattle.shade_verdict.specs.Clean.{HasOff, off_rest, off_in_one, off_in_two, off_behind}
 use Rattle.shade_sound.proofs.Bools.{contra, false_true}
-use Rattle.shade_sound.proofs.Rules.{rule_parts}
+use Rattle.shade_core.proofs.RuleLaws.{rule_parts}
 
 -- the number of the first statement of a list
 abbrev pub head_number : Code → Option ℕ
@@ -118,12 +118,12 @@ module _ {f : CoreFunction} {low : Node → Bool} where
   two_high cl e = back cl Graph.branch_two (cl.stands Graph.branch_stands_two) e
 
   -- What is not low at the beginning of a list is not low at its end.
-  pub end_high : (a : Node) (c : Code) → runs c ≡ true → Closed f low a c → low a ≡ false → low (end_of a c) ≡ false
+  pub end_high : (a : Node) (c : Code) → have_rules c ≡ true → Closed f low a c → low a ≡ false → low (end_of a c) ≡ false
   end_high a done rules cl e = e
   end_high a (plain n act rest) rules cl e = end_high (After n) rest (rule_parts (plain n act rest) rules).1 (in_plain cl) (plain_high cl (head_high a (plain n act rest) cl e))
   end_high a (jump n act rest) rules cl e = jump_high cl (head_high a (jump n act rest) cl e)
   end_high a (branch n cond one two rest) rules cl e =
-      let parts : (runs one ≡ true) × (runs two ≡ true) × (runs rest ≡ true) = rule_parts (branch n cond one two rest) rules in
+      let parts : (have_rules one ≡ true) × (have_rules two ≡ true) × (have_rules rest ≡ true) = rule_parts (branch n cond one two rest) rules in
       let before : low (Before n) ≡ false = head_high a (branch n cond one two rest) cl e in
       let ends : low (end_of (Part n 0) one) ≡ false = end_high (Part n 0) one parts.0 (in_one cl) (one_high cl before) in
       let after : low (After n) ≡ false = branch_high cl before ends in
@@ -135,7 +135,7 @@ module _ {f : CoreFunction} {low : Node → Bool} where
   end_high a (part n which keys fallback body others) rules cl e = e
 
   -- what follows a branch after which control is not low
-  pub branch_end_high : (a : Node) (n : ℕ) (cond : Operand) (one two rest : Code) → runs rest ≡ true → Closed f low a (branch n cond one two rest) → low (After n) ≡ false → low (end_of a (branch n cond one two rest)) ≡ false
+  pub branch_end_high : (a : Node) (n : ℕ) (cond : Operand) (one two rest : Code) → have_rules rest ≡ true → Closed f low a (branch n cond one two rest) → low (After n) ≡ false → low (end_of a (branch n cond one two rest)) ≡ false
   branch_end_high a n cond one two rest rules cl after = either_high low (branch_behaviour one two).next (end_of (After n) rest) (After n) (λ next. end_high (After n) rest rules (behind_branch cl next) after) after
 
   pub branch_rest_high : (a : Node) (n : ℕ) (cond : Operand) (one two rest : Code) → Closed f low a (branch n cond one two rest) → low (After n) ≡ false → code_low low rest ≡ false

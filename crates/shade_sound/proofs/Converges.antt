@@ -1,18 +1,21 @@
 -- The lanes of a clean module converge.
 use Rattle.std.proofs.Common.{◌≡◌, ℕ, zero, suc, ◌+◌, Bool, true, false, List, [], ◌∷◌, ◌++◌, map, Option, Some, None, refl, ap, ap₂, sym, ◌∙◌, subst, ◌⊎◌, inl, inr}
-use Rattle.std.specs.Prelude.{◌==◌, slice_get, IsSome}
+use Rattle.std.specs.Prelude.{if◌then◌else◌, ◌==◌, slice_get, IsSome}
 use Rattle.std.specs.Option.{option_map}
 use Rattle.std.proofs.lemmas.Bool.{eqb-true, eq-eqb}
 use Rattle.std.proofs.lemmas.Option.{slice_get-map}
 use Rattle.shade_base.specs.declared.severity.Severity.{Severity}
 use Rattle.shade_values.specs.declared.types.Space.{Space}
+use Rattle.shade_values.specs.declared.value.Value.{Value as AValue}
 use Rattle.shade_core.specs.declared.module.BuiltinInput.TheVariants.{LocalId, LocalIndex, GlobalId, GroupId, GroupCount}
 use Rattle.shade_core.specs.declared.module.CoreFunction.{CoreFunction}
 use Rattle.shade_core.specs.declared.module.CoreModule.{CoreModule}
 use Rattle.shade_core.specs.declared.module.CoreParam.{CoreParam}
 use Rattle.shade_core.specs.declared.module.CoreParam.TheVariants as parameter
-use Rattle.shade_core.specs.Code.{code_of}
+use Rattle.shade_core.specs.Code.{Code, code_of}
 use Rattle.shade_core.specs.Behaviour.{next_only}
+use Rattle.shade_core.specs.Rules.{has_rules}
+use Rattle.shade_core.specs.Standing.{AreNumbered}
 use Rattle.shade_graph.specs.declared.node.Node.{Node}
 use Rattle.shade_graph.specs.declared.node.Node.TheVariants.{Required, Start, Param}
 use Rattle.shade_graph.specs.Graph.{Edge, Differs, local_id, local_index, global_id}
@@ -21,16 +24,17 @@ use Rattle.shade_mem.specs.declared.inputs.Inputs.{Inputs}
 use Rattle.shade_lane.specs.declared.state.LaneState.{LaneState}
 use Rattle.shade_lane.specs.declared.state.LaneState.TheVariants.{Able, Waiting, Ended}
 use Rattle.shade_lane.specs.Lane.{halt, seq, known, param_value}
-use Rattle.shade_lane.specs.Lane.{runs as have_cases}
 use Rattle.shade_lane.specs.Members.{Member, begin_member, moved, freed, is_ended}
 use Rattle.shade_group.specs.Group.{Machine, unlike, IsRunnable, entry_runs, sized_runs, builtins_of, lane_count, members_from, sized_members, entry_members, begin, run, trace}
 use Rattle.shade_sound.specs.Laws.{NeverDiverges, TracesAgree, IsPrefixOf, has_ended}
 use Rattle.shade_sound.proofs.Bools.{false_true}
+use Rattle.shade_core.proofs.RuleLaws.{body_rules}
+use Rattle.shade_sound.proofs.Closed.{Closed}
 use Rattle.shade_sound.proofs.Rests.{Fits}
 use Rattle.shade_sound.proofs.Holds.{SameParams}
 use Rattle.shade_sound.proofs.Follows.{begins}
 use Rattle.shade_sound.proofs.Shadows.{pending, Shadow, moved_shadow, alike, at_one, freed_shadow, came_agree}
-use Rattle.shade_sound.proofs.Groups.{ended_is, so_far, AllShadow, all_get, Together, Runs, runs, Agree, agree_at}
+use Rattle.shade_sound.proofs.Groups.{ended_is, so_far, so_far_at, AllShadow, all_get, Together, Runs, runs, Agree, agree_at}
 use Rattle.shade_sound.proofs.Numbers.{InOrder, in_order}
 use Rattle.shade_sound.proofs.Markings.{Reaches, Tables, tables, low, differs_high, closed}
 
@@ -101,7 +105,7 @@ same_param inputs size n (parameter.Input GlobalId) h = absurd (h global_id)
 same_param inputs size n (parameter.Input GroupId) h = refl
 same_param inputs size n (parameter.Input GroupCount) h = refl
 
-module _ (inputs : Inputs) (f : CoreFunction) (size : List ℕ) (entry : f.entry ≡ Some size) (t : Tables f) (order : InOrder 0 (code_of f.body)) (rules : have_cases (code_of f.body) ≡ true)
+module _ (inputs : Inputs) (f : CoreFunction) (size : List ℕ) (entry : f.entry ≡ Some size) (t : Tables f) (order : InOrder 0 (code_of f.body)) (rules : has_rules f ≡ true)
     (clear : (severity : Severity) (u : Node) → Edge f (Required severity) u → Reaches f u → ⊥) (asked : HasOff (code_of f.body) → ⊥) where
   is_entry : IsSome f.entry
   is_entry = subst (λ (o : Option (List ℕ)). IsSome o) (sym entry) refl
@@ -115,7 +119,7 @@ module _ (inputs : Inputs) (f : CoreFunction) (size : List ℕ) (entry : f.entry
       by (Some p) e = same_param inputs size n p (λ d. false_true (low f t (Param i)) (differs_high f t order i p is_entry e d) h)
 
   fits : Fits f (low f t) next_only (seq (code_of f.body) halt)
-  fits = ((λ e. record { under = Start; rules = rules; closed = closed f t order clear asked; returns = λ x y. tt }), tt)
+  fits = ((λ e. record { under = Start; rules = body_rules f rules; closed = closed f t order clear asked; returns = λ x y. tt }), tt)
 
   abbrev Shade : List (List ℕ) → Member → Type 0
   Shade released m = Shadow f (low f t) inputs.entry (map (param_value (builtins_of inputs size 0)) f.params) released m
@@ -186,7 +190,7 @@ clear_of : (shader : CoreModule) (k : ℕ) (f : CoreFunction) → slice_get shad
 clear_of shader k f at clean severity u asked r = clean.none k severity u (record { function = f; numbered = at; asked = asked; path = u ∷ r.0; joined = (refl, r.1) })
 
 -- what holds of an entry that the machine runs
-of_entry : (P : Type 0) (shader : CoreModule) (k : ℕ) → IsRunnable shader k → ((f : CoreFunction) (size : List ℕ) → slice_get shader.functions k ≡ Some f → f.entry ≡ Some size → have_cases (code_of f.body) ≡ true → P) → P
+of_entry : (P : Type 0) (shader : CoreModule) (k : ℕ) → IsRunnable shader k → ((f : CoreFunction) (size : List ℕ) → slice_get shader.functions k ≡ Some f → f.entry ≡ Some size → has_rules f ≡ true → P) → P
 of_entry P shader k runs goes = by (slice_get shader.functions k) refl runs.body
   where
     by_size : (f : CoreFunction) → slice_get shader.functions k ≡ Some f → (o : Option (List ℕ)) → f.entry ≡ o → sized_runs f o → P

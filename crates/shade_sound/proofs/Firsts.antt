@@ -1,5 +1,5 @@
 -- Shaders of the first form: their control, and that they are ready.
-use Rattle.std.proofs.Common.{◌≡◌, refl, sym, ◌∙◌, ap, ap₂, subst, ℕ, zero, suc, ◌+◌, ◌≤◌, ◌&&◌, arith, ◌⊎◌, inl, inr, true, List, [], ◌∷◌, ◌++◌, map, Option, Some, None}
+use Rattle.std.proofs.Common.{◌≡◌, refl, sym, ◌∙◌, ap, ap₂, subst, ℕ, zero, suc, ◌+◌, ◌≤◌, ◌&&◌, arith, ◌⊎◌, inl, inr, true, false, List, [], ◌∷◌, ◌++◌, map, Option, Some, None}
 use Rattle.std.specs.Prelude.{◌==◌, slice_get}
 use Rattle.std.proofs.lemmas.Bool.{eq-eqb}
 use Rattle.std.proofs.lemmas.List.{append_assoc, append-nil}
@@ -17,7 +17,9 @@ use Rattle.shade_core.specs.declared.statement.Act.TheVariants.{outs-Set, outs-B
 use Rattle.shade_core.specs.declared.statement.CoreStatement.{CoreStatement}
 use Rattle.shade_core.specs.declared.module.CoreFunction.{CoreFunction}
 use Rattle.shade_core.specs.declared.module.CoreModule.{CoreModule}
-use Rattle.shade_core.specs.Code.{Plain, Set, Barrier, Return, Code, done, plain, jump, branch, before_all, act_before, statement_code, code_of}
+use Rattle.shade_core.specs.Code.{Plain, Set, Barrier, Jump, Return, Code, done, plain, jump, branch, before_all, act_before, act_code, statement_code, code_of}
+use Rattle.shade_core.specs.Control.{HasNoBehaviourFault}
+use Rattle.shade_core.specs.Rules.{have_rules, has_rules, all_have_rules}
 use Rattle.shade_core.specs.Standing.{Standing, statements, are_numbered}
 use Rattle.shade_core.proofs.CodeLaws.{act_is, statement_is, layer}
 use Rattle.shade_verdict.specs.Clean.{HasOff, off_here, off_rest, off_in_one, off_in_two, off_behind}
@@ -26,9 +28,10 @@ use Rattle.shade_first.specs.declared.tree.FirstShader.{FirstShader}
 use Rattle.shade_first.specs.Lowering as lower
 use Rattle.shade_first.specs.Lowering.{Lowers, function_of, condition, last_return, limit_of}
 use Rattle.shade_first.specs.FirstForm.{StandsFor}
-use Rattle.shade_lane.specs.Lane.{runs, ends_in_return}
+use Rattle.shade_lane.specs.Lane.{ends_in_return}
 use Rattle.shade_group.specs.Group.{entry_runs}
 use Rattle.shade_sound.specs.Laws.{FirstFormIsReady}
+use Rattle.shade_core.proofs.RuleLaws.{no_fault}
 
 -- the control of first-form items before other statements, whose numbers are those from one up to another
 pub data Items : ℕ → Code → Code → ℕ → Type 0 where
@@ -105,9 +108,9 @@ no_off (meet i) ends h = elim (off_cases h) [ inl bad ↦ bad | inr behind_ ↦ 
 no_off (split i j) ends h =
     elim (off_cases h) [ inl bad ↦ bad | inr behind_ ↦ elim (off_cases behind_) [ inl inner ↦ no_off i off_cases inner | inr more ↦ elim more [ inl other ↦ off_cases other | inr rest ↦ no_off j ends rest ] ] ]
 
--- ---- the machine has cases for what the form has
+-- ---- what the form has, has rules, and the machine runs it
 
-items_rules : {n m : ℕ} {tail c : Code} → Items n tail c m → runs tail ≡ true → runs c ≡ true
+items_rules : {n m : ℕ} {tail c : Code} → Items n tail c m → have_rules tail ≡ true → have_rules c ≡ true
 items_rules none h = h
 items_rules (meet i) h = items_rules i h
 items_rules (split i j) h = ap₂ (λ a b. a && (true && b)) (items_rules i refl) (items_rules j h)
@@ -117,8 +120,8 @@ items_end none h = h
 items_end (meet i) h = items_end i h
 items_end (split i j) h = items_end j h
 
--- so has the function of a shader
-function_rules : (s : FirstShader) (statements : List CoreStatement) (next : ℕ) → Lowers s.items 0 statements next → runs (code_of (function_of s statements next).body) ≡ true
+-- the function of a shader has rules
+function_rules : (s : FirstShader) (statements : List CoreStatement) (next : ℕ) → Lowers s.items 0 statements next → has_rules (function_of s statements next) ≡ true
 function_rules s statements next l = items_rules (body_items s statements next l) refl
 
 -- ---- its statements are numbered in structure order
@@ -149,11 +152,12 @@ pub ready : FirstFormIsReady
 ready text shader stands =
     let s : FirstShader = stands.shader in
     let one : CoreFunction = function_of s stands.stands.statements stands.stands.next in
-    let has : runs (code_of one.body) ≡ true = function_rules s stands.stands.statements stands.stands.next stands.stands.lowered in
+    let has : has_rules one ≡ true = function_rules s stands.stands.statements stands.stands.next stands.stands.lowered in
     let least : 1 ≤ s.size = stands.spells.spelled.lanes.least in
     let most : s.size ≤ 256 = stands.spells.spelled.lanes.most in
     let body : entry_runs (Some one) = (omega arith, omega arith, has, items_end (body_items s stands.stands.statements stands.stands.next stands.stands.lowered) refl) in
     record {
+      rules = ap all_have_rules stands.stands.functions ∙ ap (λ b. b && true) has;
       numbered = of_each (λ f. are_numbered 0 (statements (code_of f.body)) ≡ true) text shader stands (function_numbered s stands.stands.statements stands.stands.next stands.stands.lowered);
       rootless = stands.stands.roots;
       runs = record { body = subst (λ (o : Option CoreFunction). entry_runs o) (sym (ap (λ fs. slice_get fs 0) stands.stands.functions)) body };
@@ -162,3 +166,9 @@ ready text shader stands =
 -- no function of a shader drops a requirement
 pub none_off : (text : List ℕ) (shader : CoreModule) → StandsFor text shader → (k : ℕ) (f : CoreFunction) → slice_get shader.functions k ≡ Some f → HasOff (code_of f.body) → ⊥
 none_off text shader stands = of_each (λ f. HasOff (code_of f.body) → ⊥) text shader stands (no_off (body_items stands.shader stands.stands.statements stands.stands.next stands.stands.lowered) off_cases)
+
+-- no function of a shader has a fault of behaviour
+pub none_faulty : (text : List ℕ) (shader : CoreModule) → StandsFor text shader → (k : ℕ) (f : CoreFunction) → slice_get shader.functions k ≡ Some f → HasNoBehaviourFault f
+none_faulty text shader stands =
+    let one : CoreFunction = function_of stands.shader stands.stands.statements stands.stands.next in
+    of_each HasNoBehaviourFault text shader stands (no_fault one (function_rules stands.shader stands.stands.statements stands.stands.next stands.stands.lowered) refl)

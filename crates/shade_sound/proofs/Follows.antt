@@ -4,12 +4,12 @@ use Rattle.shade_values.specs.declared.value.Value.{Value as AValue}
 use Rattle.shade_core.specs.declared.statement.Operand.{Operand}
 use Rattle.shade_core.specs.declared.module.CoreFunction.{CoreFunction}
 use Rattle.shade_core.specs.Behaviour.{next_only}
-use Rattle.shade_core.specs.Code.{Code, done, plain, jump, call, branch, switch, loop, no_part, part}
+use Rattle.shade_core.specs.Code.{Plain, Jump, Code, done, plain, jump, call, branch, switch, loop, no_part, part}
 use Rattle.shade_graph.specs.declared.node.Node.{Node}
 use Rattle.shade_graph.specs.Graph
-use Rattle.shade_lane.specs.Lane.{halt, seq, Place, Over, First, go, tested, does, Lane, test_value, values_after, begin, step}
-use Rattle.shade_sound.proofs.Closed.{operand_low}
-use Rattle.shade_sound.proofs.Rests.{low_rest, low_place, place_low, Live, Fits, StandsWell, place_itself, next_fits, low_next}
+use Rattle.shade_lane.specs.Lane.{Rest, halt, seq, Place, Over, First, go, tested, Does, does, Lane, test_value, values_after, begin, step}
+use Rattle.shade_sound.proofs.Closed.{Closed, operand_low}
+use Rattle.shade_sound.proofs.Rests.{low_rest, rest_of, low_place, place_low, Live, Fits, StandsWell, place_itself, next_fits, low_next}
 use Rattle.shade_sound.proofs.Moves.{go_fits, high_same, low_same}
 use Rattle.shade_sound.proofs.Holds.{SameValues, SameParams, DoesKeep, does_low, test_same, values_high, values_low}
 

@@ -1,5 +1,5 @@
 -- A machine whose members all follow one lane never diverges, and each member arrives along that lane.
-use Rattle.std.proofs.Common.{◌≡◌, ℕ, zero, suc, ◌+◌, Bool, true, false, List, [], ◌∷◌, ◌++◌, map, Option, Some, None, refl, ap, sym, ◌∙◌, subst, append_assoc, append-nil, ◌⊎◌, inl, inr}
+use Rattle.std.proofs.Common.{◌≡◌, ℕ, zero, suc, ◌+◌, Bool, true, false, ◌&&◌, List, [], ◌∷◌, ◌++◌, map, Option, Some, None, refl, ap, sym, ◌∙◌, subst, append_assoc, append-nil, ◌⊎◌, inl, inr}
 use Rattle.std.specs.Prelude.{if◌then◌else◌, ◌==◌, is_none, slice_get, slice_set}
 use Rattle.std.specs.List.{list_all}
 use Rattle.std.proofs.lemmas.Bool.{eqb-true, eq-eqb}
@@ -8,7 +8,7 @@ use Rattle.shade_lane.specs.declared.state.LaneState.{LaneState}
 use Rattle.shade_lane.specs.declared.state.LaneState.TheVariants.{Able, Waiting, Ended}
 use Rattle.shade_lane.specs.Lane.{step as lane_step, is_over}
 use Rattle.shade_lane.specs.Members.{Member, arrival, moved, freed, is_able, is_waiting, is_ended}
-use Rattle.shade_group.specs.Group.{Machine, unlike, unlike_from, least_unlike, all_wait, met, ended, waited, settled, counted, stuttered, with_member, acts, step_by, step_of, step, run, instances, arrival_of, trace}
+use Rattle.shade_group.specs.Group.{Machine, unlike, unlike_from, least_unlike, all_wait, release, met, ended, waited, settled, counted, stuttered, with_member, acts, step_by, step_of, step, run, instances, member_arrival, arrival_of, trace}
 use Rattle.shade_sound.specs.Laws.{IsPrefixOf, has_ended}
 use Rattle.shade_sound.proofs.Bools.{false_true, and_parts}
 use Rattle.shade_sound.proofs.Shadows.{pending, pending_by}

@@ -1,5 +1,4 @@
 mod Bools
-mod Rules
 mod Closed
 mod Rests
 mod Moves

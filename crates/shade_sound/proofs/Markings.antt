@@ -7,7 +7,7 @@ use Rattle.shade_base.specs.declared.severity.Severity.{Severity}
 use Rattle.shade_core.specs.declared.statement.Operand.{Operand}
 use Rattle.shade_core.specs.declared.module.CoreFunction.{CoreFunction}
 use Rattle.shade_core.specs.declared.module.CoreParam.{CoreParam}
-use Rattle.shade_core.specs.Code.{Plain, Code, done, plain, jump, call, branch, switch, loop, no_part, part, code_of}
+use Rattle.shade_core.specs.Code.{Plain, Jump, Code, done, plain, jump, call, branch, switch, loop, no_part, part, code_of}
 use Rattle.shade_core.specs.Behaviour.{branch_behaviour, switch_behaviour, loop_behaviour}
 use Rattle.shade_graph.specs.declared.node.Node.{Node}
 use Rattle.shade_graph.specs.declared.node.Node.TheVariants.{Required, NonUniform, Start, Param, ContentsIn, ContentsOut, Returned, Before, After, Part, Value, Stored}

@@ -1,22 +1,24 @@
 -- A step, seen through what is low.
-use Rattle.std.proofs.Common.{◌≡◌, ℕ, Bool, true, false, Some, refl, ap, sym, ◌∙◌}
+use Rattle.std.proofs.Common.{◌≡◌, ℕ, Bool, true, false, Option, Some, None, refl, ap, sym, ◌∙◌}
+use Rattle.std.specs.Prelude.{if◌then◌else◌}
 use Rattle.shade_core.specs.declared.statement.Operand.{Operand}
 use Rattle.shade_core.specs.declared.module.CoreFunction.{CoreFunction}
-use Rattle.shade_core.specs.Code.{Jump, Break, Continue, Return, Code, done, plain, jump, call, branch, switch, loop, no_part, part}
+use Rattle.shade_core.specs.Code.{Plain, Jump, Break, Continue, Return, Code, done, plain, jump, call, branch, switch, loop, no_part, part}
 use Rattle.shade_core.specs.Behaviour.{in_turn, next_only, behaviour, branch_behaviour, goes_on}
+use Rattle.shade_core.specs.Rules.{jump_has_rules, have_rules}
 use Rattle.shade_graph.specs.declared.node.Node.{Node}
-use Rattle.shade_graph.specs.declared.node.Node.TheVariants.{After, Part}
+use Rattle.shade_graph.specs.declared.node.Node.TheVariants.{Before, After, Part}
 use Rattle.shade_graph.specs.Graph
 use Rattle.shade_graph.specs.Graph.{end_of}
-use Rattle.shade_lane.specs.Lane.{Rest, seq, Place, Over, First, jumped, chosen, go_code, go, tested, jump_runs, runs}
+use Rattle.shade_lane.specs.Lane.{Rest, halt, seq, Place, Over, First, jumped, chosen, go_code, go, tested}
 use Rattle.shade_sound.proofs.Bools.{false_true, Sub, turn_sub, sub_left, sub_right, turn_returns, turn_second, off_returns}
-use Rattle.shade_sound.proofs.Rules.{rule_parts}
+use Rattle.shade_core.proofs.RuleLaws.{rule_parts}
 use Rattle.shade_sound.proofs.Closed.{Closed, code_low, operand_low, back, in_plain, in_one, in_two, behind_branch, head_high, plain_high, jump_high, branch_high, one_high, two_high, end_high, branch_end_high, branch_rest_high, one_tests, two_tests}
-use Rattle.shade_sound.proofs.Rests.{low_rest, low_place, place_low, Live, Fits, StandsWell, low_skip, return_low, weaken}
+use Rattle.shade_sound.proofs.Rests.{low_rest, rest_of, low_place, place_low, Live, Fits, StandsWell, low_skip, return_low, weaken}
 
 module _ (f : CoreFunction) (low : Node → Bool) where
   -- what is left after a part of a branch
-  part_fits : (n p : ℕ) (cond : Operand) (one two rest inner : Code) (k : Rest) (l : Live f low (branch n cond one two rest) k) → runs inner ≡ true → runs rest ≡ true
+  part_fits : (n p : ℕ) (cond : Operand) (one two rest inner : Code) (k : Rest) (l : Live f low (branch n cond one two rest) k) → have_rules inner ≡ true → have_rules rest ≡ true
       → Closed f low (Part n p) inner → Sub (behaviour inner) (branch_behaviour one two)
       → (goes_on (branch_behaviour one two) ≡ false → low (end_of (Part n p) inner) ≡ false → low (After n) ≡ false)
       → Fits f low (behaviour (branch n cond one two rest)) k → Fits f low next_only (seq inner (seq rest k))
@@ -39,13 +41,13 @@ module _ (f : CoreFunction) (low : Node → Bool) where
 
   branch_fits : (t : Bool) (n : ℕ) (cond : Operand) (one two rest : Code) (k : Rest) → Live f low (branch n cond one two rest) k → Fits f low (behaviour (branch n cond one two rest)) k → Fits f low next_only (chosen t one two (seq rest k))
   branch_fits true n cond one two rest k l h =
-      let parts : (runs one ≡ true) × (runs two ≡ true) × (runs rest ≡ true) = rule_parts (branch n cond one two rest) l.rules in
+      let parts : (have_rules one ≡ true) × (have_rules two ≡ true) × (have_rules rest ≡ true) = rule_parts (branch n cond one two rest) l.rules in
       part_fits n 0 cond one two rest one k l parts.0 parts.2 (in_one l.closed) (sub_left (behaviour one) (behaviour two)) (λ g x. back l.closed (Graph.branch_end_one g) (l.closed.stands Graph.branch_stands_after) x) h
   branch_fits false n cond one two rest k l h =
-      let parts : (runs one ≡ true) × (runs two ≡ true) × (runs rest ≡ true) = rule_parts (branch n cond one two rest) l.rules in
+      let parts : (have_rules one ≡ true) × (have_rules two ≡ true) × (have_rules rest ≡ true) = rule_parts (branch n cond one two rest) l.rules in
       part_fits n 1 cond one two rest two k l parts.1 parts.2 (in_two l.closed) (sub_right (behaviour one) (behaviour two)) (λ g x. back l.closed (Graph.branch_end_two g) (l.closed.stands Graph.branch_stands_after) x) h
 
-  jump_fits : (act : Jump) (rest : Code) (k : Rest) → jump_runs act ≡ true → Fits f low next_only (jumped act rest k)
+  jump_fits : (act : Jump) (rest : Code) (k : Rest) → jump_has_rules act ≡ true → Fits f low next_only (jumped act rest k)
   jump_fits (Return value) rest k rules = tt
   jump_fits Break rest k rules = false_true false refl rules
   jump_fits Continue rest k rules = false_true false refl rules
@@ -72,7 +74,7 @@ module _ (f : CoreFunction) (low : Node → Bool) where
   branch_same true n cond one two rest k l one_part two_part = low_skip low one (seq rest k) (head_high (Part n 0) one (in_one l.closed) one_part)
   branch_same false n cond one two rest k l one_part two_part = low_skip low two (seq rest k) (head_high (Part n 1) two (in_two l.closed) two_part)
 
-  jump_same : (n : ℕ) (act : Jump) (rest : Code) (k : Rest) → jump_runs act ≡ true → Live f low (jump n act rest) k → low (After n) ≡ false → low_rest low (jumped act rest k) ≡ low_rest low k
+  jump_same : (n : ℕ) (act : Jump) (rest : Code) (k : Rest) → jump_has_rules act ≡ true → Live f low (jump n act rest) k → low (After n) ≡ false → low_rest low (jumped act rest k) ≡ low_rest low k
   jump_same n (Return value) rest k rules l e = return_low low k (l.returns e refl)
   jump_same n Break rest k rules l e = false_true false refl rules
   jump_same n Continue rest k rules l e = false_true false refl rules
@@ -87,7 +89,7 @@ module _ (f : CoreFunction) (low : Node → Bool) where
       jump_same n act rest k (rule_parts (jump n act rest) l.rules).0 l (jump_high l.closed e)
   code_same t (branch n cond one two rest) k h e =
       let l : Live f low (branch n cond one two rest) k = h.0 refl in
-      let parts : (runs one ≡ true) × (runs two ≡ true) × (runs rest ≡ true) = rule_parts (branch n cond one two rest) l.rules in
+      let parts : (have_rules one ≡ true) × (have_rules two ≡ true) × (have_rules rest ≡ true) = rule_parts (branch n cond one two rest) l.rules in
       let one_part : low (Part n 0) ≡ false = one_high l.closed e in
       let two_part : low (Part n 1) ≡ false = two_high l.closed e in
       let after : low (After n) ≡ false = branch_high l.closed e (end_high (Part n 0) one parts.0 (in_one l.closed) one_part) in

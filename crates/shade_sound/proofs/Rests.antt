@@ -1,13 +1,15 @@
 -- What a lane has left, seen through what is low.
-use Rattle.std.proofs.Common.{◌≡◌, Bool, true, false, refl, sym, ◌∙◌}
+use Rattle.std.proofs.Common.{◌≡◌, ℕ, Bool, true, false, Option, refl, sym, ◌∙◌}
 use Rattle.std.specs.Prelude.{if◌then◌else◌}
 use Rattle.shade_core.specs.declared.behaviour.Behaviour.{Behaviour}
+use Rattle.shade_core.specs.declared.statement.Operand.{Operand}
 use Rattle.shade_core.specs.declared.module.CoreFunction.{CoreFunction}
-use Rattle.shade_core.specs.Code.{Code, done, plain, jump, call, branch, switch, loop, no_part, part}
+use Rattle.shade_core.specs.Code.{Plain, Jump, Code, done, plain, jump, call, branch, switch, loop, no_part, part}
 use Rattle.shade_core.specs.Behaviour.{in_turn, next_only, behaviour}
+use Rattle.shade_core.specs.Rules.{have_rules}
 use Rattle.shade_graph.specs.declared.node.Node.{Node}
 use Rattle.shade_graph.specs.Graph.{end_of}
-use Rattle.shade_lane.specs.Lane.{Rest, halt, seq, Place, Over, First, next, runs}
+use Rattle.shade_lane.specs.Lane.{Rest, halt, seq, Place, Over, First, next}
 use Rattle.shade_sound.proofs.Bools.{false_true, Sub, turn_sub}
 use Rattle.shade_sound.proofs.Closed.{Closed, code_low}
 
@@ -36,7 +38,7 @@ HighAll low (seq c k) = (code_low low c ≡ false) × HighAll low k
 -- A list under a node, and what a Return in it passes over where control is not low at its end.
 pub record Live (f : CoreFunction) (low : Node → Bool) (c : Code) (k : Rest) : Type 0 where
   pub under : Node
-  pub rules : runs c ≡ true
+  pub rules : have_rules c ≡ true
   pub closed : Closed f low under c
   pub returns : low (end_of under c) ≡ false → (behaviour c).returns ≡ true → HighAll low k
 

@@ -1,27 +1,28 @@
 -- A member of a group follows the lane that has only what is low.
 use Rattle.std.proofs.Common.{◌≡◌, ℕ, zero, suc, ◌+◌, Bool, true, false, not, ◌&&◌, List, [], ◌∷◌, ◌++◌, Option, Some, None, refl, ap, sym, ◌∙◌, subst, append_assoc, append-nil, arith, inl, inr, ◌⊎◌, add-zero, add-suc}
+use Rattle.std.specs.Prelude.{◌==◌}
 use Rattle.std.proofs.lemmas.Bool.{eq-eqb}
 use Rattle.shade_base.specs.declared.severity.Severity.{Severity}
 use Rattle.shade_base.specs.declared.severity.Severity.TheVariants.{Error, Warning, Info, Off}
 use Rattle.shade_values.specs.declared.types.Space.{Space}
 use Rattle.shade_values.specs.declared.value.Value.{Value as AValue}
 use Rattle.shade_core.specs.declared.module.CoreFunction.{CoreFunction}
-use Rattle.shade_core.specs.Code.{Plain, Set, Load, Declare, Store, Atomic, Barrier, UniformLoad, Length, Code, done, plain, jump, call, branch, switch, loop, no_part, part, code_of}
+use Rattle.shade_core.specs.Code.{Plain, Set, Load, Declare, Store, Atomic, Barrier, UniformLoad, Length, Jump, Code, done, plain, jump, call, branch, switch, loop, no_part, part, code_of}
 use Rattle.shade_graph.specs.declared.node.Node.{Node}
 use Rattle.shade_graph.specs.declared.node.Node.TheVariants.{Required, Before}
 use Rattle.shade_graph.specs.Graph
 use Rattle.shade_verdict.specs.Clean.{off_here}
 use Rattle.shade_lane.specs.declared.state.LaneState.{LaneState}
 use Rattle.shade_lane.specs.declared.state.LaneState.TheVariants.{Able, Waiting, Ended}
-use Rattle.shade_lane.specs.Lane.{Place, Over, First, Lane, step, counts, is_over}
+use Rattle.shade_lane.specs.Lane.{Rest, Place, Over, First, Lane, step, counts, is_over}
 use Rattle.shade_lane.specs.Members.{Member, Arrival, act_arrival, arrival, state_by, moved, freed}
 use Rattle.shade_group.specs.Group.{same_instance, unlike, instances}
 use Rattle.shade_sound.specs.Laws.{IsPrefixOf}
 use Rattle.shade_sound.proofs.Bools.{false_true}
-use Rattle.shade_sound.proofs.Closed.{Closed}
+use Rattle.shade_sound.proofs.Closed.{Closed, back}
 use Rattle.shade_sound.proofs.Rests.{low_place, place_low, Live, StandsWell, place_itself}
 use Rattle.shade_sound.proofs.Holds.{SameParams}
-use Rattle.shade_sound.proofs.Follows.{low_begin, low_steps, Follows, high_step, follow_low, over_stays}
+use Rattle.shade_sound.proofs.Follows.{low_begin, low_step, low_steps, Follows, high_step, follow_low, over_stays}
 
 pub apart : (n k : ℕ) → ((d : ℕ) × (k ≡ n + d)) ⊎ ((d : ℕ) × (n ≡ k + d))
 apart zero k = inl (k, omega arith)

@@ -1,11 +1,10 @@
 -- Clean modules converge, over all lists of lane steps; and what the texts of the first form are to these laws. Lists may name any
 -- numbers: a number that is no lane's is a step that changes nothing but the counts.
-use Rattle.std.specs.Prelude.{◌≡◌, ◌⊎◌, ◌↔◌, ℕ, Bool, true, false, List, [], ◌++◌, Option, None, Some, slice_get, IsTrue}
+use Rattle.std.specs.Prelude.{◌≡◌, ◌⊎◌, ◌↔◌, ℕ, Bool, true, false, List, [], ◌++◌, Option, None, Some, slice_get}
 use Rattle.shade_base.specs.declared.severity.Severity.TheVariants.{Error}
 use Rattle.shade_core.specs.declared.module.CoreModule.{CoreModule}
-use Rattle.shade_core.specs.declared.module.CoreFunction.{CoreFunction}
-use Rattle.shade_core.specs.Code.{code_of}
-use Rattle.shade_core.specs.Standing.{statements, are_numbered}
+use Rattle.shade_core.specs.Rules.{all_have_rules}
+use Rattle.shade_core.specs.Standing.{AreNumbered}
 use Rattle.shade_graph.specs.Graph.{Among}
 use Rattle.shade_verdict.specs.declared.violation.Violation.{Violation}
 use Rattle.shade_verdict.specs.Violations.{AreViolations}
@@ -13,13 +12,9 @@ use Rattle.shade_verdict.specs.Clean.{IsClean}
 use Rattle.shade_first.specs.FirstForm.{StandsFor}
 use Rattle.shade_mem.specs.declared.inputs.Inputs.{Inputs}
 use Rattle.shade_lane.specs.Members.{Member, is_ended}
-use Rattle.shade_group.specs.Group.{IsRunnable, begin, run, trace}
+use Rattle.shade_group.specs.Group.{Machine, IsRunnable, begin, run, trace}
 
 -- ---- convergence
-
--- all statements of each function have the numbers from 0 on, one after another
-abbrev pub AreNumbered : List CoreFunction → Type 0
-AreNumbered functions = (k : ℕ) (f : CoreFunction) → slice_get functions k ≡ Some f → IsTrue (are_numbered 0 (statements (code_of f.body)))
 
 -- No run of a clean module has diverged, whatever the spaces and severities of its barriers are. Its statements are numbered in
 -- structure order, and the machine runs its entry.
@@ -45,9 +40,10 @@ TracesAgree =
 
 -- ---- texts of the first form
 
--- What is asked of a module behind the reader: its statements are numbered in structure order, it has no roots, and the machine runs its
--- first function.
+-- What is asked of a module behind the reader: it has rules, its statements are numbered in structure order, it has no roots, and the
+-- machine runs its first function.
 pub record IsReady (shader : CoreModule) : Type 0 where
+  pub rules : all_have_rules shader.functions ≡ true
   pub numbered : AreNumbered shader.functions
   pub rootless : shader.roots ≡ []
   pub runs : IsRunnable shader 0

@@ -13,7 +13,7 @@ pub fn clean_traces_agree()
     ensures { TracesAgree }
 {}
 
-/// Each shader of the first form is numbered in structure order, has no roots, and is run by the machine.
+/// Each shader of the first form has rules, is numbered in structure order, has no roots, and is run by the machine.
 pub fn first_form_is_ready()
     ensures { FirstFormIsReady }
 {}

@@ -2,6 +2,7 @@
 use Rattle.std.specs.Prelude.{◌≡◌, ℕ, List, [], ◌∷◌, Result, Ok, Err, IfOk, Option, Some, None, Vec}
 use Rattle.std.specs.Option.{option_map}
 use Rattle.std.specs.declared.alloc.Global.{Global}
+use Rattle.shade_core.specs.declared.module.CoreModule.{CoreModule}
 use Rattle.shade_lex.specs.declared.fault.LexFault.{LexFault}
 use Rattle.shade_lex.specs.declared.fault.LexFault.TheVariants as lex_fault
 use Rattle.shade_lex.specs.declared.piece.Problem.TheVariants as problem

@@ -1,7 +1,9 @@
 //! The answer to a request: reading its files, and what is said of them.
 
 ghost use Rattle.std.specs.Prelude.{◌≡◌, ◌<◌, ◌≤◌, ◌↔◌, ℕ, List, IsTrue, IfOk};
+ghost use Rattle.shade_core.specs.Standing.{AreNumbered};
 ghost use Rattle.shade_report.specs.CheckReport.{count_of};
+ghost use Rattle.shade_sound.specs.Laws.{IsReady};
 ghost use Rattle.shade_top.specs.Answer.{IsChecked, fault_read, refusal as refusal_answer, verdict as verdict_answer, verdict_status};
 ghost use Rattle.shade_top.specs.Changes.{shelf_change};
 ghost use Rattle.shade_top.specs.Report.{answer_of, IsReadBy, Outcome, request_seen};
@@ -13,6 +15,7 @@ use crate::text::{Reading, TEXT_LIMIT, read_shader};
 use shade_base::{Severity, Shelf, ShelfRefusal, Status};
 use shade_core::CoreModule;
 use shade_report::{Refusal, check_text, count_with, refusal_text};
+use shade_sound::first_form_is_ready;
 use shade_verdict::{Violation, violations_of};
 use std::alloc::{AllocError, Global};
 
@@ -88,6 +91,8 @@ pub fn refused(alloc: Global, refusal: Refusal) -> Result<Report, AllocError>
 fn check(alloc: Global, bytes: &[u8]) -> Result<Report, AllocError>
     ensures { IfOk result (λ report. IsChecked bytes.now (answer_of report)) }
 {
+    // A law, whose clause the proof uses; it does nothing when it runs.
+    first_form_is_ready();
     match read_shader(alloc, bytes) {
         Ok(Reading::Shader(shader)) => judge(alloc, &shader),
         Ok(Reading::Refused(refusal)) => refused(alloc, refusal),
@@ -97,6 +102,7 @@ fn check(alloc: Global, bytes: &[u8]) -> Result<Report, AllocError>
 
 /// Judges the module that a text stands for.
 fn judge(alloc: Global, shader: &CoreModule) -> Result<Report, AllocError>
+    requires { IsReady shader.now }
     ensures { (bytes : List ℕ) → IsModuleOf bytes shader.now → IfOk result (λ report. IsChecked bytes (answer_of report)) }
 {
     let violations = violations_of(alloc, shader)?;
@@ -126,6 +132,7 @@ pub fn verdict(
     shader: &CoreModule,
     violations: &[Violation],
 ) -> Result<Report, AllocError>
+    requires { AreNumbered shader.now.functions }
     ensures { IfOk result (λ report. answer_of report ≡ verdict_answer shader.now.functions violations.now) }
 {
     let text = check_text(alloc, shader, violations)?;

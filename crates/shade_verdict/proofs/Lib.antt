@@ -3,3 +3,4 @@ pub mod NumberPaths
 pub mod Sites
 pub mod FoundLaws
 pub mod TargetLaws
+pub mod RuleLaws

@@ -1,4 +1,4 @@
--- Clean modules, whose statements are Set, Barrier, If and Return; each further kind of statement adds its own cases.
+-- Clean modules. (This project's rule, after WGSL, "Uniformity analysis".) Statements that have no rules yet add their own cases.
 use Rattle.std.specs.Prelude.{◌≡◌, ℕ, true, List, Some, slice_get}
 use Rattle.shade_base.specs.declared.severity.Severity.{Severity}
 use Rattle.shade_base.specs.declared.severity.Severity.TheVariants.{Off}
@@ -7,6 +7,8 @@ use Rattle.shade_core.specs.declared.statement.Operand.{Operand}
 use Rattle.shade_core.specs.declared.module.CoreFunction.{CoreFunction}
 use Rattle.shade_core.specs.Code.{Plain, Barrier, Code, plain, branch, code_of}
 use Rattle.shade_core.specs.Behaviour.{branch_behaviour}
+use Rattle.shade_core.specs.Control.{HasNoBehaviourFault}
+use Rattle.shade_core.specs.Rules.{all_have_rules}
 use Rattle.shade_graph.specs.declared.node.Node.{Node}
 use Rattle.shade_verdict.specs.Violations.{IsViolation}
 
@@ -18,7 +20,10 @@ pub data HasOff : Code → Type 0 where
   off_in_two : {n : ℕ} {cond : Operand} {one two rest : Code} → HasOff two → HasOff (branch n cond one two rest)
   off_behind : {n : ℕ} {cond : Operand} {one two rest : Code} → (branch_behaviour one two).next ≡ true → HasOff rest → HasOff (branch n cond one two rest)
 
--- A module is clean where it has no violation of any severity, and no barrier drops its requirement.
+-- A module is clean where it has rules, no function has a fault of behaviour, it has no violation of any severity, and no barrier drops its
+-- requirement.
 pub record IsClean (functions : List CoreFunction) : Type 0 where
+  pub rules : all_have_rules functions ≡ true
+  pub behaved : (number : ℕ) (function : CoreFunction) → slice_get functions number ≡ Some function → HasNoBehaviourFault function
   pub none : (number : ℕ) (severity : Severity) (node : Node) → IsViolation functions number severity node → ⊥
   pub asked : (number : ℕ) (function : CoreFunction) → slice_get functions number ≡ Some function → HasOff (code_of function.body) → ⊥

@@ -1,6 +1,7 @@
 // The violations of a module.
-ghost use Rattle.std.specs.Prelude.{◌≡◌, ℕ, ◌+◌, ◌<◌, ◌^◌, List, ◌∷◌, All, map, length, slice_get, Some, IfOk};
+ghost use Rattle.std.specs.Prelude.{◌≡◌, ℕ, ◌+◌, ◌<◌, ◌^◌, List, ◌∷◌, All, map, length, slice_get, true, Some, IfOk};
 ghost use Rattle.shade_core.specs.declared.module.CoreFunction.{CoreFunction};
+ghost use Rattle.shade_core.specs.Rules.{all_have_rules};
 ghost use Rattle.shade_graph.specs.declared.node.Node.TheVariants.{Required, NonUniform};
 ghost use Rattle.shade_graph.specs.Graph.{Edge};
 ghost use Rattle.shade_graph.specs.Order.{severity_rank};
@@ -121,11 +122,12 @@ fn add_function(
     Ok(())
 }
 
-/// The violations of a module, by function, then severity, then the node that is asked for.
+/// The violations of a module that has rules, by function, then severity, then the node that is asked for.
 ///
 /// Each has the least path to the non-uniform node. Takes time and memory in the order of the graph of each function, of one
 /// search through it, and of the paths that are told. Functions have numbers of 32 bits, as the nodes of a graph do.
 pub fn violations_of(alloc: Global, checked: &CoreModule) -> Result<Vec<Violation>, AllocError>
+    requires { all_have_rules checked.now.functions ≡ true }
     ensures { IfOk result (λ violations. AreViolations checked.now.functions violations.items) }
 {
     let functions = checked.functions.as_slice();

@@ -19,3 +19,6 @@ lanes_of-requires-clause-most c = (entry_is c.args.module.now c.args.inputs.now.
 
 pub lanes_of-requires-clause-parts : goal.lanes_of-requires-clause-parts
 lanes_of-requires-clause-parts c = global_small c.args.module.now c.args.inputs.now c.in-Some-entry.size c.requires.allowed (sizes_of (slice_index c.in-Some-entry.size 0) (slice_index c.in-Some-entry.size 1) (slice_index c.in-Some-entry.size 2) (entry_is c.args.module.now c.args.inputs.now.entry c.in-Some.function.now c.in-Some-entry.size c.in-Some.ensures.value c.in-Some-entry.is c.requires.runs).0 (entry_is c.args.module.now c.args.inputs.now.entry c.in-Some.function.now c.in-Some-entry.size c.in-Some.ensures.value c.in-Some-entry.is c.requires.runs).1) (entry_is c.args.module.now c.args.inputs.now.entry c.in-Some.function.now c.in-Some-entry.size c.in-Some.ensures.value c.in-Some-entry.is c.requires.runs).1
+
+pub lanes_of-requires-clause-rules : goal.lanes_of-requires-clause-rules
+lanes_of-requires-clause-rules c = (entry_is c.args.module.now c.args.inputs.now.entry c.in-Some.function.now c.in-Some-entry.size c.in-Some.ensures.value c.in-Some-entry.is c.requires.runs).2
