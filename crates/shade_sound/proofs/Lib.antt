@@ -9,5 +9,3 @@ mod Groups
 mod Numbers
 mod Markings
 mod Converges
-mod Firsts
-mod Severities

@@ -1,5 +1,5 @@
 // The headline: clean modules converge at their barriers.
-ghost use Rattle.shade_sound.specs.Laws.{CleanWithoutErrors, FirstFormIsReady, NeverDiverges, TracesAgree};
+ghost use Rattle.shade_sound.specs.Laws.{NeverDiverges, TracesAgree};
 
 /// Whichever lanes are stepped, the lanes of a clean module never diverge at a barrier. Its statements are numbered in structure
 /// order, and the machine runs its entry.
@@ -11,14 +11,4 @@ pub fn clean_never_diverges()
 /// ended, the other's list is a beginning of its.
 pub fn clean_traces_agree()
     ensures { TracesAgree }
-{}
-
-/// Each shader of the first form has rules, is numbered in structure order, has no roots, and is run by the machine.
-pub fn first_form_is_ready()
-    ensures { FirstFormIsReady }
-{}
-
-/// A shader of the first form is clean exactly where a check tells no error.
-pub fn clean_without_errors()
-    ensures { CleanWithoutErrors }
 {}

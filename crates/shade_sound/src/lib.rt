@@ -3,6 +3,4 @@
 
 mod law;
 
-pub use law::{
-    clean_never_diverges, clean_traces_agree, clean_without_errors, first_form_is_ready,
-};
+pub use law::{clean_never_diverges, clean_traces_agree};

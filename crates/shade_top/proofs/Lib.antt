@@ -1,9 +1,11 @@
 mod CauseLaws
 mod CompleteLaws
 mod ExactLaws
+mod Firsts
 mod OneAnswer
 mod ReadLaws
 mod ReadingLaws
 mod RunLaws
 mod ServeLaws
+mod Severities
 mod TextLaws

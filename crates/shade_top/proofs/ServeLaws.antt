@@ -10,7 +10,8 @@ use Rattle.shade_verdict.specs.declared.violation.Violation.{Violation}
 use Rattle.shade_graph.specs.Graph.{Among, here, later}
 use Rattle.shade_graph.specs.Order.{severity_rank}
 use Rattle.shade_report.specs.CheckReport.{count_of}
-use Rattle.shade_sound.specs.Laws.{NeverDiverges, CleanWithoutErrors, FirstFormIsReady, HasError, IsReady}
+use Rattle.shade_sound.specs.Laws.{NeverDiverges}
+use Rattle.shade_top.specs.Ready.{CleanWithoutErrors, FirstFormIsReady, HasError, IsReady}
 use Rattle.shade_top.specs.Answer.{Answer, IsAnswer, no_form, answered, IsAnswerTo, Runs, bad_words, inputs}
 use Rattle.shade_top.specs.Causes.{Diverges, HasCause, JobRead, RefusesAloud, Unread, unread_file}
 use Rattle.shade_top.specs.Changes.{ShelfChange, SinkChange}

@@ -2,6 +2,7 @@ pub mod Answer
 pub mod Causes
 pub mod Changes
 pub mod Laws
+pub mod Ready
 pub mod Report
 pub mod Request
 pub mod Serves

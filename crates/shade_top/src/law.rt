@@ -2,11 +2,11 @@
 
 ghost use Rattle.shade_top.specs.Laws.{Completeness, ExactStatuses, OneAnswer};
 
+use crate::ready::first_form_is_ready;
 use shade_first::{never_both, one_module, one_place};
 use shade_job::one_job;
 use shade_lex::law::{templates_are_one, texts_are_read_once};
 use shade_parse::law::tokens_are_parsed_once;
-use shade_sound::first_form_is_ready;
 use shade_verdict::violations_are_one_list;
 
 /// The status and the text of the answer are functions of the words and of what was read.

@@ -5,6 +5,7 @@
 #![tactic(auto)]
 
 mod law;
+mod ready;
 mod report;
 mod request;
 mod run;
@@ -12,6 +13,7 @@ mod text;
 mod top_call;
 
 pub use law::{answers_are_one, fitting_words_are_answered, statuses_are_exact};
+pub use ready::{clean_without_errors, first_form_is_ready};
 pub use shade_first::{FirstFault, first_form};
 pub use top_call::serve;
 

@@ -3,19 +3,19 @@
 ghost use Rattle.std.specs.Prelude.{◌≡◌, ◌<◌, ◌≤◌, ◌↔◌, ℕ, List, IsTrue, IfOk};
 ghost use Rattle.shade_core.specs.Standing.{AreNumbered};
 ghost use Rattle.shade_report.specs.CheckReport.{count_of};
-ghost use Rattle.shade_sound.specs.Laws.{IsReady};
+ghost use Rattle.shade_top.specs.Ready.{IsReady};
 ghost use Rattle.shade_top.specs.Answer.{IsChecked, fault_read, refusal as refusal_answer, verdict as verdict_answer, verdict_status};
 ghost use Rattle.shade_top.specs.Changes.{shelf_change};
 ghost use Rattle.shade_top.specs.Report.{answer_of, IsReadBy, Outcome, request_seen};
 ghost use Rattle.shade_top.specs.Text.{IsModuleOf};
 
+use crate::ready::first_form_is_ready;
 use crate::request::Request;
 use crate::run::run_bytes;
 use crate::text::{Reading, TEXT_LIMIT, read_shader};
 use shade_base::{Severity, Shelf, ShelfRefusal, Status};
 use shade_core::CoreModule;
 use shade_report::{Refusal, check_text, count_with, refusal_text};
-use shade_sound::first_form_is_ready;
 use shade_verdict::{Violation, violations_of};
 use std::alloc::{AllocError, Global};
 

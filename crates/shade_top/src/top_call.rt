@@ -5,10 +5,11 @@ ghost use Rattle.shade_top.specs.Changes.{shelf_change, sink_change};
 ghost use Rattle.shade_top.specs.Request.{texts_of};
 ghost use Rattle.shade_top.specs.Serves.{IsWritten, Serves};
 
+use crate::ready::{clean_without_errors, first_form_is_ready};
 use crate::report::report_on;
 use crate::request::request_of;
 use shade_base::{Shelf, Sink, Status};
-use shade_sound::{clean_never_diverges, clean_without_errors, first_form_is_ready};
+use shade_sound::clean_never_diverges;
 use std::alloc::{AllocError, Global};
 
 /// Answers the words: reads the files that they name, each at most once, and writes one text.

@@ -15,8 +15,8 @@ use Rattle.shade_verdict.specs.declared.violation.Violation.{Violation}
 use Rattle.shade_verdict.specs.Violations.{IsViolation, Shows, second_node}
 use Rattle.shade_first.specs.Lowering.{function_of}
 use Rattle.shade_first.specs.FirstForm.{StandsFor}
-use Rattle.shade_sound.specs.Laws.{CleanWithoutErrors}
-use Rattle.shade_sound.proofs.Firsts.{Items, none, meet, split, body_items, only_one, ready, none_faulty, none_off}
+use Rattle.shade_top.specs.Ready.{CleanWithoutErrors}
+use Rattle.shade_top.proofs.Firsts.{Items, none, meet, split, body_items, only_one, ready, none_faulty, none_off}
 
 -- each barrier of a list has the severity error
 abbrev AsksError : Plain → Type 0

@@ -30,7 +30,7 @@ use Rattle.shade_first.specs.Lowering.{Lowers, function_of, condition, last_retu
 use Rattle.shade_first.specs.FirstForm.{StandsFor}
 use Rattle.shade_lane.specs.Lane.{ends_in_return}
 use Rattle.shade_group.specs.Group.{entry_runs}
-use Rattle.shade_sound.specs.Laws.{FirstFormIsReady}
+use Rattle.shade_top.specs.Ready.{FirstFormIsReady}
 use Rattle.shade_core.proofs.RuleLaws.{no_fault}
 
 -- the control of first-form items before other statements, whose numbers are those from one up to another
