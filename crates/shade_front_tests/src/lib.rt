@@ -13,6 +13,8 @@ mod first;
 #[cfg(test)]
 mod job;
 #[cfg(test)]
+mod known;
+#[cfg(test)]
 mod lex;
 #[cfg(test)]
 mod names;

@@ -1,0 +1,4 @@
+pub mod Turns
+pub mod Becoming
+pub mod Answering
+pub mod OneAnswer

@@ -1,0 +1,6 @@
+pub mod Answers
+pub mod Conversions
+pub mod Keeps
+pub mod Laws
+pub mod Lookups
+pub mod Operates
