@@ -9,8 +9,8 @@ use crate::op::Op;
 use crate::types::Scalar;
 use crate::value::Leaf;
 
-/// The operation on one scalar.
-pub(crate) fn unary(op: Op, leaf: Leaf) -> Leaf
+/// The operation on one scalar. Takes no memory.
+pub fn unary(op: Op, leaf: Leaf) -> Leaf
     ensures { result ≡ unary op leaf }
 {
     let scalar = leaf.scalar;
@@ -70,8 +70,8 @@ fn lowest_bit(bits: u32) -> i64
     i64::from(bits.trailing_zeros())
 }
 
-/// The operation on three scalars.
-pub(crate) fn ternary(op: Op, first: Leaf, second: Leaf, third: Leaf) -> Leaf
+/// The operation on three scalars. Takes no memory.
+pub fn ternary(op: Op, first: Leaf, second: Leaf, third: Leaf) -> Leaf
     ensures { result ≡ ternary op first second third }
 {
     match op {
@@ -86,8 +86,8 @@ pub(crate) fn ternary(op: Op, first: Leaf, second: Leaf, third: Leaf) -> Leaf
     }
 }
 
-/// The operation on four scalars.
-pub(crate) fn quaternary(op: Op, first: Leaf, second: Leaf, third: Leaf, fourth: Leaf) -> Leaf
+/// The operation on four scalars. Takes no memory.
+pub fn quaternary(op: Op, first: Leaf, second: Leaf, third: Leaf, fourth: Leaf) -> Leaf
     ensures { result ≡ quaternary op first second third fourth }
 {
     match op {

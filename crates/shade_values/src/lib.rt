@@ -15,8 +15,9 @@ pub mod touch;
 pub mod types;
 pub mod value;
 
+pub use bits::{quaternary, ternary, unary};
 pub use name::Name;
-pub use numbers::clamp;
+pub use numbers::{clamp, kept, truth, word};
 pub use op::Op;
 pub use operations::apply;
 pub use parts::{copy_value, same_value};

@@ -6,8 +6,8 @@ ghost use Rattle.shade_values.specs.Numbers.{word, wrapped, width, modulo, kept,
 use crate::types::Scalar;
 use crate::value::Leaf;
 
-/// The 32 bits of a number.
-pub(crate) fn word(number: i64) -> u32
+/// The 32 bits of a number. Takes no memory.
+pub fn word(number: i64) -> u32
     ensures { result ≡ word number }
 {
     number.rem_euclid(0x1_0000_0000) as u32
@@ -25,8 +25,8 @@ fn wrapped(scalar: Scalar, number: i64) -> i64
     }
 }
 
-/// A leaf of this scalar, whose number is taken into its range.
-pub(crate) fn kept(scalar: Scalar, number: i64) -> Leaf
+/// A leaf of this scalar, whose number is taken into its range. Takes no memory.
+pub fn kept(scalar: Scalar, number: i64) -> Leaf
     ensures scalar { result.scalar ≡ scalar }
     ensures number { result.number ≡ wrapped scalar number }
 {
@@ -36,8 +36,8 @@ pub(crate) fn kept(scalar: Scalar, number: i64) -> Leaf
     }
 }
 
-/// A leaf of `bool`.
-pub(crate) fn truth(flag: bool) -> Leaf
+/// A leaf of `bool`. Takes no memory.
+pub fn truth(flag: bool) -> Leaf
     ensures { result ≡ truth flag }
 {
     Leaf {

@@ -144,6 +144,7 @@ impl TypeTable {
         ensures layout { result ≡ layout (shape_of self.now id) }
         ensures sized { result.size ≤ greatest_size }
         ensures aligned { 0 < result.align }
+        ensures sound { IsSound self.now }
     {
         let entry = &self.entries[id.0 as usize];
         entry.layout
