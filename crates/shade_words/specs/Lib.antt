@@ -1,0 +1,4 @@
+pub mod Lays
+pub mod Ways
+pub mod Types
+pub mod Written
