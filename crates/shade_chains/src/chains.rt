@@ -1,4 +1,4 @@
-// Sums over chains of calls.
+//! Sums over chains of calls.
 
 ghost use Rattle.std.specs.Prelude.{◌≡◌, ◌<◌, ◌≤◌, ℕ, All, IfOk, Some, length, map, slice_get, slice_index_or};
 ghost use Rattle.shade_core.specs.Views.{ValueTypes};

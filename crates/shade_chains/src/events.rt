@@ -1,4 +1,4 @@
-// The calls of a function, and the statements at which all lanes meet.
+//! The calls of a function, and the statements at which all lanes meet.
 
 ghost use Rattle.std.specs.Prelude.{◌≡◌, ◌++◌, ◌∷◌, [], map, IfOk, OnOk};
 ghost use Rattle.shade_core.specs.Code.{act_code, code_of, done, part_code, parts_from};

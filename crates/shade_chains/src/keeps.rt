@@ -1,4 +1,4 @@
-// The limits of chains of calls.
+//! The limits of chains of calls.
 
 ghost use Rattle.std.specs.Prelude.{◌≡◌, ◌<◌, ◌^◌, ◌↔◌, ℕ, IfNone, IfOk, IfSome, IsSome, IsTrue, Some, length, map};
 ghost use Rattle.std.specs.List.{list_all};

@@ -1,4 +1,4 @@
-// An order of functions in which each stands behind those that it calls.
+//! An order of functions in which each stands behind those that it calls.
 
 ghost use Rattle.std.specs.Prelude.{◌≡◌, ◌<◌, ◌^◌, ◌++◌, ◌∷◌, [], ℕ, All, IfOk, OnOk, false, Some, length, map, replicate, set, slice_get, true};
 ghost use Rattle.std.specs.Option.{MatchOption};

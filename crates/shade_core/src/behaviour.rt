@@ -1,4 +1,5 @@
-// Behaviours.
+//! Behaviours.
+
 ghost use Rattle.std.specs.Prelude.{◌≡◌, map};
 ghost use Rattle.shade_core.specs.Behaviour.{behaviour, joined, in_turn, after_switch, after_loop, goes_on};
 ghost use Rattle.shade_core.specs.Code.{act_code, part_code, parts_from, code_of, done};

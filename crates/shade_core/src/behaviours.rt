@@ -1,4 +1,5 @@
-// The behaviours of all statements of a module.
+//! The behaviours of all statements of a module.
+
 ghost use Rattle.std.specs.Prelude.{◌≡◌, IsSome, Some};
 ghost use Rattle.shade_core.specs.Behaviour.{behaviour_at};
 

@@ -1,4 +1,4 @@
-// Faults of behaviour.
+//! Faults of behaviour.
 
 /// What is wrong with how control goes on after a statement.
 #[derive(Clone, Copy, Debug, PartialEq, Eq)]

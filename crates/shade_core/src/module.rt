@@ -1,4 +1,4 @@
-// Modules and functions.
+//! Modules and functions.
 
 use crate::statement::Statements;
 use shade_base::Place;

@@ -1,4 +1,5 @@
-// What has rules.
+//! What has rules.
+
 ghost use Rattle.std.specs.Prelude.{◌≡◌};
 ghost use Rattle.std.specs.List.{list_any};
 ghost use Rattle.shade_core.specs.Atomics.{is_atomic as is_atomic_of};

@@ -1,4 +1,4 @@
-// Statements and what they hold.
+//! Statements and what they hold.
 
 use shade_base::{Place, Severity};
 use shade_values::{Op, Space, TypeId, Value};

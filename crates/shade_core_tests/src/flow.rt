@@ -1,11 +1,11 @@
 //! The definitions that reach a statement: of branches, loops, switches, parts, arguments, dead code, and of a large function.
 
-use shade_samples::{NOWHERE, branch, compare, statement};
 use shade_core::{
     Act, Argument, Base, CoreFunction, CoreParam, CoreStatement, Operand, SwitchPart, View,
     ViewStep,
 };
 use shade_flow::{Definition, reaching};
+use shade_samples::{NOWHERE, branch, compare, statement};
 use shade_values::{Name, Op, Space, TypeId};
 use sqlite_items::Items;
 use std::alloc::{AllocError, Global};

@@ -1,9 +1,9 @@
 //! The nodes and edges of a graph, by name.
 
-use shade_samples::{BarrierAt, branching};
 use shade_base::Severity;
 use shade_core::has_rules;
 use shade_graph::{FnGraph, Node, graph_of};
+use shade_samples::{BarrierAt, branching};
 use shade_values::Op;
 use std::alloc::Global;
 use std::process::Abort;

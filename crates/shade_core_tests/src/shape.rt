@@ -1,7 +1,7 @@
 //! Demands of the shape of a module, each at its edge: tables of types, values of a type, names, variables and limits.
 
-use shade_samples::NOWHERE;
 use shade_core::{CoreFunction, Functions, Root, Roots};
+use shade_samples::NOWHERE;
 use shade_shape::{Types, are_roots, functions_differ, is_table, is_value_of, roots_differ};
 use shade_values::{Access, Leaf, Name, Scalar, ShadeType, Space, TypeId, TypeTable, Value};
 use sqlite_items::Items;

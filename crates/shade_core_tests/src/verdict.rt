@@ -1,9 +1,9 @@
 //! Violations, their sites and their paths.
 
-use shade_samples::{barrier, branch, compare, entry_of, only};
 use shade_base::Severity;
 use shade_core::{CoreModule, all_have_rules};
 use shade_graph::Node;
+use shade_samples::{barrier, branch, compare, entry_of, only};
 use shade_values::Op;
 use shade_verdict::violations_of;
 use sqlite_items::Items;

@@ -1,4 +1,4 @@
-// Laws of texts of the first form.
+//! Laws of texts of the first form.
 
 ghost use Rattle.shade_first.specs.Continuations.{BeginningsAreTexts};
 ghost use Rattle.shade_first.specs.Laws.{OneModule, OnePlace, NeverBoth, FewStatements};

@@ -1,4 +1,4 @@
-// Reads the tokens of a text.
+//! Reads the tokens of a text.
 
 ghost use Rattle.std.specs.Prelude.{◌≡◌, ◌+◌, ◌≤◌, ◌<◌, ℕ, IfOk, IsTrue, OnOk, length, drop, take};
 ghost use Rattle.std.specs.Prelude.{[], ◌∷◌, ◌++◌};

@@ -1,4 +1,4 @@
-// Makes the core module of a tree.
+//! Makes the core module of a tree.
 
 ghost use Rattle.std.specs.Prelude.{◌≡◌, ◌+◌, ◌-◌, ◌^◌, ◌<◌, ◌∷◌, [], Contains, IfOk, OnOk, IsErr, length};
 ghost use Rattle.shade_values.specs.Table.{with_type};

@@ -1,4 +1,4 @@
-// Numbers as they are written.
+//! Numbers as they are written.
 
 ghost use Rattle.std.specs.Prelude.{◌≡◌, ◌^◌, ◌<◌, ◌≤◌, ◌++◌, ◌↔◌, ℕ, IsTrue, MatchOption, codes};
 ghost use Rattle.std.specs.Fmt.{decimal};

@@ -1,4 +1,4 @@
-// Reads the tree that a list of tokens spells.
+//! Reads the tree that a list of tokens spells.
 
 ghost use Rattle.std.specs.Prelude.{◌≡◌, ◌+◌, ◌<◌, ◌≤◌, ◌++◌, ◌∷◌, [], IfOk, MatchResult, length};
 ghost use Rattle.shade_first.specs.Form.{Item, Body, Shader};

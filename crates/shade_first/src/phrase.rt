@@ -1,4 +1,4 @@
-// Reads single tokens and fixed lists of tokens.
+//! Reads single tokens and fixed lists of tokens.
 
 ghost use Rattle.std.specs.Prelude.{◌≡◌, ◌<◌, ◌≤◌, OnSome, MatchOption, MatchResult, Some, length, map, slice_get};
 ghost use Rattle.shade_base.specs.declared.place.Place.{Place};

@@ -1,4 +1,4 @@
-// The words that no declaration may take.
+//! The words that no declaration may take.
 
 ghost use Rattle.std.specs.Prelude.{◌≡◌, map, nat_eq};
 ghost use Rattle.std.specs.List.{list_any};

@@ -1,4 +1,4 @@
-// The tokens that the form fixes.
+//! The tokens that the form fixes.
 
 ghost use Rattle.std.specs.Prelude.{◌≡◌, ◌↔◌, IsTrue};
 ghost use Rattle.shade_first.specs.Steps.{kind_of};

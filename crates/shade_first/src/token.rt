@@ -1,4 +1,4 @@
-// Tokens of the first form.
+//! Tokens of the first form.
 
 ghost use Rattle.std.specs.Prelude.{◌≡◌};
 ghost use Rattle.shade_first.specs.Tokens.{size_of};

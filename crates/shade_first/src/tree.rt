@@ -1,4 +1,4 @@
-// Trees of the first form.
+//! Trees of the first form.
 
 use shade_base::Place;
 use shade_values::Name;

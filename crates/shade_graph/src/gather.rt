@@ -1,4 +1,5 @@
-// One walk over the statements of a function, which gathers its nodes and edges.
+//! One walk over the statements of a function, which gathers its nodes and edges.
+
 ghost use Rattle.std.specs.Prelude.{◌≡◌, ◌++◌, ◌∷◌, [], ◌&&◌, if◌then◌else◌, IfOk};
 ghost use Rattle.shade_core.specs.Behaviour.{joined, goes_on, behaviour};
 ghost use Rattle.shade_core.specs.Code.{done, act_code, code_of};

@@ -1,4 +1,5 @@
-// The uniformity graph of a function, by the numbers of its nodes.
+//! The uniformity graph of a function, by the numbers of its nodes.
+
 ghost use Rattle.std.specs.Prelude.{◌≡◌, ℕ, ◌<◌, ◌^◌, ◌++◌, ◌∷◌, [], map, length, slice_get, true, Some, IfOk, IfSome, IfNone};
 ghost use Rattle.shade_graph.specs.Order.{IsAscending};
 ghost use Rattle.shade_core.specs.Code.{code_of};

@@ -1,4 +1,4 @@
-// The nodes of the uniformity graph, tags and reasons.
+//! The nodes of the uniformity graph, tags and reasons.
 
 use shade_base::Severity;
 

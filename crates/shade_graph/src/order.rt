@@ -1,4 +1,5 @@
-// The order of nodes.
+//! The order of nodes.
+
 ghost use Rattle.std.specs.Prelude.{◌≡◌, ℕ, ◌<◌, ◌↔◌, length, Contains, slice_get, Some, IfSome, IfNone};
 ghost use Rattle.shade_graph.specs.Order.{IsAscending};
 ghost use Rattle.shade_graph.specs.declared.node.Node.{Node};

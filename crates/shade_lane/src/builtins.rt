@@ -1,4 +1,4 @@
-// What a lane is handed at its start.
+//! What a lane is handed at its start.
 
 /// What a lane knows of its place: its own position in its workgroup and the number of that position, the position of
 /// the workgroup, how many workgroups there are, and the size of each.

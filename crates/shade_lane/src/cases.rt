@@ -1,4 +1,4 @@
-// How lists of statements end.
+//! How lists of statements end.
 
 ghost use Rattle.std.specs.Prelude.{◌≡◌};
 ghost use Rattle.shade_core.specs.Code.{code_of};

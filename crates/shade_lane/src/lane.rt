@@ -1,4 +1,4 @@
-// A lane and its steps.
+//! A lane and its steps.
 
 ghost use Rattle.std.specs.Prelude.{◌≡◌, ℕ, ◌<◌, ◌^◌, [], ◌∷◌, length, map, slice_get, true, Some, IfOk, OnOk, OnErr};
 ghost use Rattle.shade_core.specs.declared.module.CoreFunction.{CoreFunction as TheFunction};

@@ -1,4 +1,4 @@
-// What a lane has left to run.
+//! What a lane has left to run.
 
 ghost use Rattle.std.specs.Prelude.{◌≡◌, [], ◌∷◌, true, IfOk, OnOk, OnErr, MatchOption};
 ghost use Rattle.shade_lane.specs.Seen.{place_of, later_of, below_of, has_first, HasFirst};

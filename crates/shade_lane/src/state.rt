@@ -1,4 +1,4 @@
-// Whether a lane may step.
+//! Whether a lane may step.
 
 ghost use Rattle.std.specs.Prelude.{◌≡◌};
 

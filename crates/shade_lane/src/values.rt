@@ -1,4 +1,4 @@
-// What operands and operations give.
+//! What operands and operations give.
 
 ghost use Rattle.std.specs.Prelude.{◌≡◌, ℕ, ◌<◌, ◌^◌, ◌*◌, map, slice_get, IfOk};
 ghost use Rattle.std.specs.Option.{option_copied, option_map};

@@ -1,4 +1,4 @@
-// What a run is handed.
+//! What a run is handed.
 
 use sqlite_items::Items;
 

@@ -1,4 +1,4 @@
-// Shared memory.
+//! Shared memory.
 
 ghost use Rattle.std.specs.Prelude.{◌≡◌, ◌<◌, [], length, IfOk, slice_get, Some};
 ghost use Rattle.shade_mem.specs.Inputs.{start_words};

@@ -10,8 +10,8 @@ use std::test::Fail;
 /// What a book is told, one thing a step.
 #[derive(Clone, Copy)]
 enum Told {
-    /// A lane touches words of a root: its number, the first word, and how many.
-    Access(u32, [u32; 3], TouchKind),
+    /// A lane touches words of a root: the root's number, the first word, and how many.
+    Access(u32, u32, u32, u32, TouchKind),
     /// A barrier of a space is passed.
     Barrier(Space),
 }
@@ -27,67 +27,55 @@ const RUNS: &[(
 )] = &[
     (&[], &[]),
     // One lane by itself, reads alone, atomics alone, other words.
+    (&[Access(0, 0, 0, 3, Write), Access(0, 0, 0, 3, Read)], &[]),
+    (&[Access(0, 0, 0, 3, Read), Access(1, 0, 0, 3, Read)], &[]),
     (
-        &[Access(0, [0, 0, 3], Write), Access(0, [0, 0, 3], Read)],
+        &[Access(0, 0, 1, 1, Atomic), Access(1, 0, 1, 1, Atomic)],
         &[],
     ),
-    (
-        &[Access(0, [0, 0, 3], Read), Access(1, [0, 0, 3], Read)],
-        &[],
-    ),
-    (
-        &[Access(0, [0, 1, 1], Atomic), Access(1, [0, 1, 1], Atomic)],
-        &[],
-    ),
-    (
-        &[Access(0, [0, 0, 1], Write), Access(1, [0, 1, 2], Write)],
-        &[],
-    ),
-    (
-        &[Access(0, [0, 0, 1], Write), Access(1, [1, 0, 1], Write)],
-        &[],
-    ),
+    (&[Access(0, 0, 0, 1, Write), Access(1, 0, 1, 2, Write)], &[]),
+    (&[Access(0, 0, 0, 1, Write), Access(1, 1, 0, 1, Write)], &[]),
     // Each pair of kinds that races, in both orders.
     (
-        &[Access(0, [0, 0, 1], Write), Access(1, [0, 0, 1], Write)],
+        &[Access(0, 0, 0, 1, Write), Access(1, 0, 0, 1, Write)],
         &[(0, 0, (0, 0, Write), (1, 1, Write))],
     ),
     (
-        &[Access(0, [0, 0, 1], Write), Access(1, [0, 0, 1], Read)],
+        &[Access(0, 0, 0, 1, Write), Access(1, 0, 0, 1, Read)],
         &[(0, 0, (0, 0, Write), (1, 1, Read))],
     ),
     (
-        &[Access(0, [0, 0, 1], Read), Access(1, [0, 0, 1], Write)],
+        &[Access(0, 0, 0, 1, Read), Access(1, 0, 0, 1, Write)],
         &[(0, 0, (0, 0, Read), (1, 1, Write))],
     ),
     (
-        &[Access(0, [1, 1, 1], Atomic), Access(1, [1, 0, 2], Read)],
+        &[Access(0, 1, 1, 1, Atomic), Access(1, 1, 0, 2, Read)],
         &[(1, 1, (0, 0, Atomic), (1, 1, Read))],
     ),
     (
-        &[Access(0, [1, 1, 1], Write), Access(1, [1, 1, 1], Atomic)],
+        &[Access(0, 1, 1, 1, Write), Access(1, 1, 1, 1, Atomic)],
         &[(1, 1, (0, 0, Write), (1, 1, Atomic))],
     ),
     // The least second step, then the least first one; one race a word.
     (
         &[
-            Access(0, [0, 0, 1], Read),
-            Access(1, [0, 0, 1], Read),
-            Access(2, [0, 0, 1], Write),
-            Access(3, [0, 0, 1], Write),
+            Access(0, 0, 0, 1, Read),
+            Access(1, 0, 0, 1, Read),
+            Access(2, 0, 0, 1, Write),
+            Access(3, 0, 0, 1, Write),
         ],
         &[(0, 0, (0, 0, Read), (2, 2, Write))],
     ),
     (
         &[
-            Access(2, [0, 0, 1], Read),
-            Access(1, [0, 0, 1], Read),
-            Access(2, [0, 0, 1], Write),
+            Access(2, 0, 0, 1, Read),
+            Access(1, 0, 0, 1, Read),
+            Access(2, 0, 0, 1, Write),
         ],
         &[(0, 0, (1, 1, Read), (2, 2, Write))],
     ),
     (
-        &[Access(0, [0, 1, 2], Write), Access(1, [0, 0, 3], Write)],
+        &[Access(0, 0, 1, 2, Write), Access(1, 0, 0, 3, Write)],
         &[
             (0, 1, (0, 0, Write), (1, 1, Write)),
             (0, 2, (0, 0, Write), (1, 1, Write)),
@@ -96,33 +84,33 @@ const RUNS: &[(
     // A barrier of the root's space parts accesses, one of the other space does not.
     (
         &[
-            Access(0, [0, 0, 1], Write),
+            Access(0, 0, 0, 1, Write),
             Barrier(Space::Workgroup),
-            Access(1, [0, 0, 1], Read),
+            Access(1, 0, 0, 1, Read),
         ],
         &[],
     ),
     (
         &[
-            Access(0, [0, 0, 1], Write),
+            Access(0, 0, 0, 1, Write),
             Barrier(Space::Storage),
-            Access(1, [0, 0, 1], Read),
+            Access(1, 0, 0, 1, Read),
         ],
         &[(0, 0, (0, 0, Write), (2, 1, Read))],
     ),
     (
         &[
-            Access(0, [1, 0, 1], Write),
+            Access(0, 1, 0, 1, Write),
             Barrier(Space::Storage),
-            Access(1, [1, 0, 1], Read),
+            Access(1, 1, 0, 1, Read),
         ],
         &[],
     ),
     (
         &[
-            Access(0, [1, 0, 1], Write),
+            Access(0, 1, 0, 1, Write),
             Barrier(Space::Workgroup),
-            Access(1, [1, 0, 1], Read),
+            Access(1, 1, 0, 1, Read),
         ],
         &[(1, 0, (0, 0, Write), (2, 1, Read))],
     ),
@@ -131,7 +119,7 @@ const RUNS: &[(
 /// Tells a book of one step.
 fn tell(rt: &impl Abort, book: &mut RaceBook, step: u64, told: Told) {
     match told {
-        Access(lane, [root, first, count], kind) => {
+        Access(lane, root, first, count, kind) => {
             assert!(rt; (root as usize) < book.roots());
             assert!(rt; first as usize + count as usize <= book.words(root));
             let touch = Touch {

@@ -1,4 +1,4 @@
-// What the statements of a function are asked one by one.
+//! What the statements of a function are asked one by one.
 
 ghost use Rattle.std.specs.Prelude.{◌≡◌, map};
 ghost use Rattle.shade_core.specs.HasShape.{ends_with_return as ends_with_return_of, is_return as is_return_of};

@@ -1,4 +1,4 @@
-// Names that differ.
+//! Names that differ.
 
 ghost use Rattle.std.specs.Prelude.{◌≡◌, ◌↔◌, IfOk, IsTrue, map};
 ghost use Rattle.shade_core.specs.HasShape.{AllDiffer};

@@ -1,4 +1,4 @@
-// What holds of each type of a table.
+//! What holds of each type of a table.
 
 ghost use Rattle.std.specs.Prelude.{◌≡◌, ◌<◌, ◌&&◌, false, map, length, IfOk};
 ghost use Rattle.std.specs.List.{list_all, list_any};

@@ -1,4 +1,4 @@
-// What the shape of a module gives the layers behind it, as functions that do nothing.
+//! What the shape of a module gives the layers behind it, as functions that do nothing.
 
 ghost use Rattle.shade_shape.specs.Laws.{EntriesStart, FunctionsAreNumbered};
 

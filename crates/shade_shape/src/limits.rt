@@ -1,4 +1,4 @@
-// How much the parts of a module may have.
+//! How much the parts of a module may have.
 
 ghost use Rattle.std.specs.Prelude.{◌≡◌, ◌≤◌, ◌<◌, ◌*◌, ◌↔◌, ℕ, All, IsTrue, length, map, sum};
 ghost use Rattle.shade_shape.specs.Bounds.{HasFewMembers, KeepsMemberLimit, KeepsSpaceLimits};

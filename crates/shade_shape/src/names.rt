@@ -1,4 +1,4 @@
-// Which statements operands name.
+//! Which statements operands name.
 
 ghost use Rattle.std.specs.Prelude.{◌≡◌, ◌==◌};
 ghost use Rattle.std.specs.List.{list_all, list_any};

@@ -1,4 +1,4 @@
-// How deep types are nested.
+//! How deep types are nested.
 
 ghost use Rattle.std.specs.Prelude.{◌≡◌, ◌+◌, min, map, length, IfOk};
 ghost use Rattle.shade_shape.specs.Depths.{deepest as deepest_of, depth_by as depth_by_of, depth_in, depth_of};

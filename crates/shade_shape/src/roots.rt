@@ -1,4 +1,4 @@
-// The variables of a module.
+//! The variables of a module.
 
 ghost use Rattle.std.specs.Prelude.{◌≡◌, ◌↔◌, All, IsTrue};
 ghost use Rattle.shade_core.specs.Roots.{IsPlaced, IsRoot, MayBegin, space_takes as space_takes_of};

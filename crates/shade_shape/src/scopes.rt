@@ -1,4 +1,4 @@
-// Where the values of statements are named.
+//! Where the values of statements are named.
 
 ghost use Rattle.std.specs.Prelude.{◌≡◌, ◌++◌, List, [], map, take, length, true, false, IfOk, OnOk};
 ghost use Rattle.shade_core.specs.Code.{act_code, code_of, done, part_code, parts_from};

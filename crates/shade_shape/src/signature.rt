@@ -1,4 +1,4 @@
-// What functions take and give.
+//! What functions take and give.
 
 ghost use Rattle.std.specs.Prelude.{◌≡◌, ◌↔◌, All, IsTrue};
 ghost use Rattle.shade_core.specs.HasShape.{HasLanes, IsPointer, IsSignature, MayGive, MayTake, space_points};

@@ -1,4 +1,4 @@
-// The statements of a function in structure order.
+//! The statements of a function in structure order.
 
 ghost use Rattle.std.specs.Prelude.{◌≡◌, ◌++◌, map, IfOk, OnOk};
 ghost use Rattle.shade_core.specs.Code.{act_code, code_of, done, part_code, parts_from};

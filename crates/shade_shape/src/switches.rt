@@ -1,4 +1,4 @@
-// The parts of a switch.
+//! The parts of a switch.
 
 ghost use Rattle.std.specs.Prelude.{◌≡◌, ◌↔◌, IsTrue, IfOk, map};
 ghost use Rattle.std.specs.List.{flat_map};

@@ -1,4 +1,4 @@
-// What the table of types is asked.
+//! What the table of types is asked.
 
 ghost use Rattle.std.specs.Prelude.{◌≡◌, ◌<◌, ◌↔◌, All, Contains, IfOk, IsTrue};
 ghost use Rattle.shade_core.specs.Types.{IsTable};

@@ -1,4 +1,4 @@
-// The types of a module, each with what holds of it.
+//! The types of a module, each with what holds of it.
 
 ghost use Rattle.std.specs.Prelude.{◌≡◌, ◌<◌, ◌↔◌, IsTrue, IfOk, length};
 ghost use Rattle.shade_core.specs.Types.{NamesHeld, type_at};

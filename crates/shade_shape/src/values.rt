@@ -1,4 +1,4 @@
-// Which values are of a type.
+//! Which values are of a type.
 
 ghost use Rattle.std.specs.Prelude.{◌≡◌, ◌<◌, ◌↔◌, All, IfNone, IfSome, IsTrue, length, option_map, slice_get};
 ghost use Rattle.shade_core.specs.Types.{spelled};

@@ -1,4 +1,5 @@
-// The headline: clean modules converge at their barriers.
+//! The headline: clean modules converge at their barriers.
+
 ghost use Rattle.shade_sound.specs.Laws.{NeverDiverges, TracesAgree};
 
 /// Whichever lanes are stepped, the lanes of a clean module never diverge at a barrier. Its statements are numbered in structure

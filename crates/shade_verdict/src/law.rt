@@ -1,4 +1,5 @@
-// A law of the verdict.
+//! A law of the verdict.
+
 ghost use Rattle.shade_verdict.specs.Laws.{OneVerdict};
 
 /// The violations of a module are one list: two lists with exactly its violations, told as they should be and in their

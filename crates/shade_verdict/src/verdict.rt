@@ -1,4 +1,5 @@
-// The violations of a module.
+//! The violations of a module.
+
 ghost use Rattle.std.specs.Prelude.{◌≡◌, ℕ, ◌+◌, ◌<◌, ◌^◌, List, ◌∷◌, All, map, length, slice_get, true, Some, IfOk};
 ghost use Rattle.shade_core.specs.declared.module.CoreFunction.{CoreFunction};
 ghost use Rattle.shade_core.specs.Rules.{all_have_rules};

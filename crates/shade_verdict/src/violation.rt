@@ -1,4 +1,4 @@
-// Violations and the paths that show them.
+//! Violations and the paths that show them.
 
 use shade_base::Severity;
 use shade_graph::{Node, Via};
