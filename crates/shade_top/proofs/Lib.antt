@@ -9,3 +9,4 @@ mod RunLaws
 mod ServeLaws
 mod Severities
 mod TextLaws
+mod OrderLaws

@@ -8,6 +8,7 @@ use Rattle.shade_verdict.specs.declared.violation.Violation.{Violation}
 use Rattle.shade_verdict.specs.Violations.{AreViolations}
 use Rattle.shade_report.specs.CheckReport.{count_of}
 use Rattle.shade_job.specs.Steps.{States}
+use Rattle.shade_orders.specs.Orders.{Agrees, HasEnded}
 use Rattle.shade_top.specs.Answer.{Answer, IsAnswer, NoJob, Runs, lanes_of, outcome, verdict}
 use Rattle.shade_top.specs.Answer.{ran as machine_after}
 use Rattle.shade_top.specs.Causes.{IsExact, JobRead, Refuses, ShaderRead}
@@ -49,3 +50,8 @@ Completeness =
     → (ShaderRead Refuses call.reads → ⊥)
     → (JobRead NoJob call.reads → ⊥)
     → Completes request call.reads sink status
+
+-- Where the run of an accepted shader ended under some lane steps, it diverges under none, and all under which it ends release the same
+-- instances in the same order and leave the same words.
+abbrev pub JobsAgree : Type 0
+JobsAgree = (bytes : List ℕ) (shader : CoreModule) (one other : List ℕ) → Runs bytes shader → HasEnded (machine_after shader one) → Agrees (machine_after shader one) (machine_after shader other)

@@ -1,11 +1,12 @@
 //! Laws of the answer and of calls. Their functions do nothing when they run.
 
-ghost use Rattle.shade_top.specs.Laws.{Completeness, ExactStatuses, OneAnswer};
+ghost use Rattle.shade_top.specs.Laws.{Completeness, ExactStatuses, JobsAgree, OneAnswer};
 
 use crate::ready::first_form_is_ready;
 use shade_first::{never_both, one_module, one_place};
 use shade_job::one_job;
 use shade_lex::law::{templates_are_one, texts_are_read_once};
+use shade_orders::orders_agree;
 use shade_parse::law::tokens_are_parsed_once;
 use shade_verdict::violations_are_one_list;
 
@@ -44,3 +45,12 @@ pub fn statuses_are_exact()
 pub fn fitting_words_are_answered()
     ensures { Completeness }
 {}
+
+/// Where the run of an accepted shader ended under the steps of one job, it does not diverge under those of another, and if it ends there
+/// too, it has released the same instances in the same order, and left the same words.
+pub fn jobs_agree()
+    ensures { JobsAgree }
+{
+    first_form_is_ready();
+    orders_agree();
+}

@@ -12,7 +12,7 @@ mod run;
 mod text;
 mod top_call;
 
-pub use law::{answers_are_one, fitting_words_are_answered, statuses_are_exact};
+pub use law::{answers_are_one, fitting_words_are_answered, jobs_agree, statuses_are_exact};
 pub use ready::{clean_without_errors, first_form_is_ready};
 pub use shade_first::{FirstFault, first_form};
 pub use top_call::serve;
