@@ -1,2 +1,10 @@
+mod BufferLaws
+mod DecideLaws
+mod JobLaws
 mod Lines
+mod ListLaws
+mod OneAnswerLaw
 mod OneJob
+mod RefusalLaws
+mod RuleLaws
+mod ScheduleLaws

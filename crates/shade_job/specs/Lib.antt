@@ -1,3 +1,12 @@
+pub mod Buffers
 pub mod Faults
+pub mod JobOf
+pub mod Json
 pub mod Laws
+pub mod OneAnswer
+pub mod Pointers
+pub mod Policies
+pub mod Refusals
+pub mod Rules
+pub mod Schedules
 pub mod Steps

@@ -1,14 +1,26 @@
-//! The jobs of the runner. A job is today a text of lane numbers: decimals without a leading zero, each below the number
-//! of lanes and each followed by a line break.
+//! The jobs of the runner: JSON texts (`read_job`), which no words reach yet, and texts of lane numbers (`read_steps`): decimals
+//! without a leading zero, each below the number of lanes and each followed by a line break.
 #![tactic(auto)]
 
-ghost use Rattle.std.specs.Prelude.{◌≡◌, ◌<◌, ◌≤◌, ◌^◌, ◌++◌, ◌∷◌, [], ℕ, List, length, take, drop, ◌+◌, ◌==◌, position, IfOk, MatchResult, MatchOption};
+mod buffers;
+mod numbers;
+mod others;
+mod policies;
+mod reading;
+mod refusal;
+mod rules;
+mod schedules;
+
+ghost use Rattle.std.specs.Prelude.{◌≡◌, ◌<◌, ◌++◌, ◌∷◌, [], ℕ, List, length, take, drop, ◌+◌, ◌==◌, position, IfOk, MatchResult, MatchOption};
 ghost use Rattle.shade_job.specs.declared.JobFault.TheVariants.{NoMemory};
 ghost use Rattle.std.specs.Fmt.{decimal};
 ghost use Rattle.shade_job.specs.Steps.{States, line, lines};
 ghost use Rattle.shade_job.specs.Faults.{Faults};
 ghost use Rattle.shade_job.specs.Laws.{OneJob};
 
+pub use policies::{Schedule, StepList, mix, pick_by_list, pick_by_seed, pick_in_turn};
+pub use reading::{Job, one_answer, read_job};
+pub use refusal::{JobRefusal, JobRule};
 use shade_base::decimal_value;
 use std::alloc::{AllocError, Global};
 
