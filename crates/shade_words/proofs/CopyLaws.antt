@@ -1,12 +1,12 @@
 -- Values that are copied word by word, and composites that are written part by part.
-use Rattle.std.proofs.Common.{◌≡◌, ℕ, ◌+◌, ◌-◌, ◌<◌, ◌≤◌, ◌⊎◌, inl, inr, List, [], ◌∷◌, length, get_or, set, refl, sym, ap, subst, ◌∙◌, arith, below_more, get_or-set_other, get_or-set_same}
+use Rattle.std.proofs.Common.{◌≡◌, ℕ, ◌+◌, ◌-◌, ◌<◌, ◌≤◌, ◌⊎◌, inl, inr, List, length, get_or, set, refl, sym, ap, subst, ◌∙◌, arith, below_more, get_or-set_other, get_or-set_same}
 use Rattle.shade_values.specs.declared.value.Value.{Value}
 use Rattle.shade_values.specs.declared.value.Value.TheVariants as value
 use Rattle.shade_values.specs.Parts.{no_value}
 use Rattle.shade_words.specs.Lays.{Lay, size, IsLay, decode, Covers, AreFit}
-use Rattle.shade_words.specs.Ways.{part_lay, part_offset, part_count}
+use Rattle.shade_words.specs.Ways.{part_lay, part_offset, part_count, IsComposite}
 use Rattle.shade_words.specs.Written.{Cleared, Written}
-use Rattle.shade_words.proofs.Layouts.{decode_same, fit_same, covers_within, part_ends, parts_apart, part_lies, part_covers, decode_parts, fit_parts, IsComposite}
+use Rattle.shade_words.proofs.Layouts.{decode_same, fit_same, covers_within, part_ends, parts_apart, part_lies, part_covers, decode_parts}
 use Rattle.shade_words.proofs.TypeLaws.{lt_or}
 
 -- ---- a copy, word by word

@@ -1,14 +1,13 @@
 -- A value is told by the words that its layout covers, and a part by the words of the part.
-use Rattle.std.proofs.Common.{◌≡◌, ℕ, zero, suc, ◌+◌, ◌*◌, ◌<◌, ◌≤◌, ◌⊎◌, inl, inr, List, [], ◌∷◌, map, length, get_or, refl, sym, ap, subst, ◌∙◌, arith}
+use Rattle.std.proofs.Common.{◌≡◌, ℕ, zero, suc, ◌+◌, ◌*◌, ◌<◌, ◌≤◌, inl, inr, List, [], ◌∷◌, map, length, get_or, refl, sym, ap, subst, ◌∙◌, arith}
 use Rattle.std.specs.List.{range_with_len}
 use Rattle.std.proofs.lemmas.List.FromFn.{get_or-map-range_with_len, length-map-range_with_len}
-use Rattle.shade_values.specs.declared.types.Scalar.{Scalar}
 use Rattle.shade_values.specs.declared.value.Value.{Value}
 use Rattle.shade_values.specs.declared.value.Value.TheVariants as value
 use Rattle.shade_values.specs.declared.value.Value.TheViews.{outs-One, outs-Many}
 use Rattle.shade_values.specs.Parts.{no_value, parts_of, parts_in, part_at}
 use Rattle.shade_words.specs.Lays.{Lay, leaf, row, fields, Fields, no_field, field, size, IsLay, Ascends, decode, decode_fields, leaf_of, Covers, AnyCovers, IsFit, AreFit, AreFieldsFit}
-use Rattle.shade_words.specs.Ways.{field_lay, field_offset, field_count, part_lay, part_offset, part_count}
+use Rattle.shade_words.specs.Ways.{field_lay, field_offset, field_count, part_lay, part_offset, part_count, IsComposite}
 
 pub range_same : (f g : ℕ → Value) (a n : ℕ) → ((k : ℕ) → k < n → f (a + k) ≡ g (a + k)) → map f (range_with_len a n) ≡ map g (range_with_len a n)
 range_same f g a zero h = refl
@@ -166,11 +165,6 @@ count_is (row e n stride) w at = ap (λ x. length (parts_in x)) (outs-Many _) �
 count_is (fields words fs) w at = ap (λ x. length (parts_in x)) (outs-Many _) ∙ count_fields fs w at
 
 -- a composite is the list of its parts
-abbrev pub IsComposite : Lay → Type 0
-IsComposite (leaf s) = ⊥
-IsComposite (row e n stride) = Unit {0}
-IsComposite (fields words fs) = Unit {0}
-
 pub whole_is : (l : Lay) (w : ℕ → ℕ) (at : ℕ) → IsComposite l → decode l w at ≡ value.Many (parts_of (decode l w at))
 whole_is (leaf s) w at ok = absurd ok
 whole_is (row e n stride) w at ok = ap (λ x. value.Many (parts_in x)) (sym (outs-Many _))

@@ -1,6 +1,14 @@
 pub mod Layouts
 pub mod WayLaws
 pub mod TypeLaws
+pub mod LeafLaws
+pub mod SpecialLaws
+pub mod OpLaws
+pub mod WordLaws
 pub mod MemberLaws
 pub mod CopyLaws
 pub mod PlaceLaws
+pub mod TakeLaws
+pub mod RowLaws
+pub mod PartLaws
+pub mod MakeLaws

@@ -1,12 +1,12 @@
 -- The members of a struct, one after another.
-use Rattle.std.proofs.Common.{◌≡◌, ◌≢◌, ℕ, zero, suc, ◌+◌, ◌-◌, ◌/◌, ◌<◌, ◌≤◌, ◌⊎◌, inl, inr, List, [], ◌∷◌, length, get_or, drop, refl, sym, ap, subst, ◌∙◌, arith, add-one, drop-cons}
+use Rattle.std.proofs.Common.{◌≡◌, ℕ, zero, suc, ◌+◌, ◌/◌, ◌<◌, ◌≤◌, ◌⊎◌, inl, inr, List, [], ◌∷◌, length, get_or, drop, refl, sym, ap, subst, ◌∙◌, arith, add-one, drop-cons}
 use Rattle.std.specs.Prelude.{◌↔◌}
 use Rattle.std.specs.Int.{next_multiple_of}
 use Rattle.shade_values.specs.declared.types.Layout.{Layout}
 use Rattle.shade_values.specs.declared.types.TypeId.{TypeId}
-use Rattle.shade_values.specs.Shape.{Shape, Shapes, no_member, member, shape_at, member_shapes}
+use Rattle.shade_values.specs.Shape.{Shape, shape_at, member_shapes}
 use Rattle.shade_values.specs.Layouts.{layout, layouts, offset_after, end_after}
-use Rattle.shade_words.specs.Lays.{Lay, Fields, no_field, field, size, IsLay, Ascends, Covers, AnyCovers}
+use Rattle.shade_words.specs.Lays.{Fields, no_field, field, size, Ascends, Covers, AnyCovers}
 use Rattle.shade_words.specs.Ways.{field_lay, field_offset, field_count}
 use Rattle.shade_words.specs.Types.{lay_of, fields_of}
 use Rattle.shade_words.proofs.Layouts.{covers_within, fields_apart, field_lies, field_covers}

@@ -1,8 +1,8 @@
 -- The parts of the values of a type, and the words that hold scalars, as the code tells them.
-use Rattle.std.proofs.Common.{◌≡◌, ◌≢◌, ℕ, zero, suc, ◌+◌, ◌-◌, ◌*◌, ◌/◌, ◌%◌, ◌<◌, ◌≤◌, ◌⊎◌, inl, inr, List, [], ◌∷◌, length, Some, slice_get, get_or, refl, sym, ap, subst, ◌∙◌, arith}
+use Rattle.std.proofs.Common.{◌≡◌, ◌≢◌, ℕ, zero, suc, ◌+◌, ◌*◌, ◌/◌, ◌%◌, ◌<◌, ◌≤◌, ◌⊎◌, inl, inr, List, [], length, Some, slice_get, refl, sym, ap, subst, ◌∙◌, arith}
 use Rattle.std.specs.Prelude.{◌↔◌, Option, None, IfSome, IfNone, IsTrue, nat_eq, nat_lt}
 use Rattle.std.proofs.lemmas.Bool.Decides.{nat_tests}
-use Rattle.std.proofs.lemmas.Nat.{div-mul-add, mod-mul-add}
+use Rattle.std.proofs.lemmas.Nat.{mod-mul-add}
 use Rattle.std.proofs.lemmas.Option.{get_or_from_slice_get, slice_get-get_or}
 use Rattle.shade_values.specs.declared.types.Scalar.{Scalar}
 use Rattle.shade_values.specs.declared.types.Scalar.TheVariants as scalar
@@ -10,13 +10,13 @@ use Rattle.shade_values.specs.declared.types.ShadeType.{ShadeType}
 use Rattle.shade_values.specs.declared.types.ShadeType.TheVariants.{Plain, Vector, Array, RuntimeArray, Atomic, Struct, Exchanged, Pointer}
 use Rattle.shade_values.specs.declared.types.TypeId.{TypeId}
 use Rattle.shade_values.specs.Table.{Table, StructView, members_at}
-use Rattle.shade_values.specs.Shape.{Shape, pointer, shape_at, member_shapes, spell, shapes, shape_of}
+use Rattle.shade_values.specs.Shape.{Shape, shape_at, member_shapes, spell, shapes, shape_of}
 use Rattle.shade_values.specs.Layouts.{layout, layouts, stride_of, end_after, greatest_size}
-use Rattle.shade_values.specs.Sound.{IsSound, IsOver, AreKnown}
+use Rattle.shade_values.specs.Sound.{IsSound, AreKnown}
 use Rattle.shade_values.proofs.ShapeLaws.{shape_is}
-use Rattle.shade_words.specs.Lays.{Lay, leaf, row, fields, Fields, size, IsLay, Ascends, Covers, AnyCovers}
-use Rattle.shade_words.specs.Ways.{part_lay, part_offset, part_count}
-use Rattle.shade_words.specs.Types.{lay_of, fields_of, lay, type_of, members_lay, IsStruct, HasParts}
+use Rattle.shade_words.specs.Lays.{Lay, leaf, row, fields, IsLay, Ascends, Covers, AnyCovers}
+use Rattle.shade_words.specs.Ways.{part_offset, part_count}
+use Rattle.shade_words.specs.Types.{lay_of, lay, type_of, members_lay, IsStruct, HasElements, HasParts}
 use Rattle.shade_words.specs.declared.members.PartWord.{PartWord}
 use Rattle.shade_values.specs.declared.types.Space.{Space}
 use Rattle.shade_values.specs.declared.types.Access.{Access}
@@ -143,6 +143,16 @@ row_covers_none e n stride word ok none (k, j, lt, is, c) = none k j lt (omega (
 
 pub type_is : (t : Table) (id : TypeId) (ty : ShadeType) → slice_get t.types id.0 ≡ Some ty → type_of t id ≡ ty
 type_is t id ty e = get_or_from_slice_get t.types id.0 ty (Plain scalar.Bool) e
+
+pub no_elements : (ty : ShadeType) → HasElements ty → ((n : ℕ) (s : Scalar) → ty ≢ Vector n s) → ((e : TypeId) (n : ℕ) → ty ≢ Array e n) → ⊥
+no_elements (Vector n s) h v a = v n s refl
+no_elements (Array e n) h v a = a e n refl
+no_elements (Plain s) h v a = h
+no_elements (RuntimeArray e) h v a = h
+no_elements (Atomic s) h v a = h
+no_elements (Struct n) h v a = h
+no_elements (Exchanged s) h v a = h
+no_elements (Pointer space pointee access) h v a = h
 
 pub no_parts : (ty : ShadeType) → HasParts ty → ((e : TypeId) (n : ℕ) → ty ≢ Array e n) → ((e : TypeId) → ty ≢ RuntimeArray e) → ((n : ℕ) → ty ≢ Struct n) → ⊥
 no_parts (Vector n s) h a r m = h

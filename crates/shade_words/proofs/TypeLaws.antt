@@ -5,7 +5,7 @@ use Rattle.shade_values.specs.declared.types.ShadeType.{ShadeType}
 use Rattle.shade_values.specs.declared.types.ShadeType.TheVariants.{Plain, Vector, Array, RuntimeArray, Atomic, Struct, Exchanged, Pointer}
 use Rattle.shade_values.specs.declared.types.TypeId.{TypeId}
 use Rattle.shade_values.specs.Table.{Table, StructView, members_at}
-use Rattle.shade_values.specs.Shape.{Shape, plain, vector, array, runtime_array, atomic, structure, exchanged, pointer, Shapes, no_member, member, shape_at, member_shapes, spell, with_spelling, shapes, shape_of}
+use Rattle.shade_values.specs.Shape.{Shape, plain, vector, array, runtime_array, atomic, structure, exchanged, pointer, Shapes, no_member, member, member_shapes, spell, with_spelling, shapes, shape_of}
 use Rattle.shade_values.specs.Layouts.{layout, layouts, stride_of, offset_after, end_after, greatest_align}
 use Rattle.shade_values.specs.Sound.{IsSound, IsOver}
 use Rattle.shade_values.proofs.ShapeLaws.{shape_is}

@@ -3,7 +3,7 @@ use Rattle.std.proofs.Common.{◌≡◌, ◌≢◌, ℕ, zero, suc, ◌+◌, ◌
 use Rattle.shade_values.specs.declared.value.Value.{Value}
 use Rattle.shade_values.specs.declared.value.Value.TheVariants as value
 use Rattle.shade_values.specs.Parts.{no_value, parts_of, part_at}
-use Rattle.shade_words.specs.Lays.{Lay, size, IsLay, decode, Covers}
+use Rattle.shade_words.specs.Lays.{Lay, size, IsLay, decode}
 use Rattle.shade_words.specs.Ways.{value_at, value_put, part_lay, part_offset, part_count, way_lay, way_offset, IsWay}
 use Rattle.shade_words.proofs.Layouts.{decode_same, covers_within, part_ends, parts_apart, part_lies, part_is, count_is, whole_is, has_parts, all_same}
 

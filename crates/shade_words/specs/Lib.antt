@@ -2,3 +2,5 @@ pub mod Lays
 pub mod Ways
 pub mod Types
 pub mod Written
+pub mod Spans
+pub mod Forms

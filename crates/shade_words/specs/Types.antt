@@ -46,6 +46,12 @@ pub record IsStruct (t : Table) (number : ℕ) : Type 0 where
   pub members : AreKnown (length t.types) (members_at t.structs number)
   pub small : end_after 0 (layouts (member_shapes (shapes t) (members_at t.structs number))) ≤ greatest_size
 
+-- a type with elements by number
+abbrev pub HasElements : ShadeType → Type 0
+HasElements (type.Vector n s) = Unit {0}
+HasElements (type.Array element n) = Unit {0}
+HasElements _ = ⊥
+
 -- a type whose parts have types of the table
 abbrev pub HasParts : ShadeType → Type 0
 HasParts (type.Array element n) = Unit {0}

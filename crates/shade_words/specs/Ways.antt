@@ -1,6 +1,5 @@
 -- Rules: the parts of a layout, and ways from a composite to a part: the number of the member, component or element at each level.
 use Rattle.std.specs.Prelude.{ℕ, zero, suc, ◌+◌, ◌*◌, ◌<◌, List, [], ◌∷◌, slice_set}
-use Rattle.shade_values.specs.declared.types.Scalar.TheVariants as scalar
 use Rattle.shade_values.specs.declared.value.Value.{Value}
 use Rattle.shade_values.specs.declared.value.Value.TheVariants as value
 use Rattle.shade_values.specs.Parts.{parts_of, part_at}
@@ -41,6 +40,12 @@ abbrev pub part_count : Lay → ℕ
 part_count (leaf s) = 0
 part_count (row e n stride) = n
 part_count (fields words fs) = field_count fs
+
+-- a vector, an array or a struct
+abbrev pub IsComposite : Lay → Type 0
+IsComposite (leaf s) = ⊥
+IsComposite (row e n stride) = Unit {0}
+IsComposite (fields words fs) = Unit {0}
 
 -- ---- ways
 

@@ -3,7 +3,7 @@
 ghost use Rattle.std.specs.Prelude.{ℕ, ◌≡◌, ◌≢◌, ◌+◌, ◌*◌, ◌<◌, ◌≤◌, ◌↔◌, IsTrue, IfSome, IfNone, length};
 ghost use Rattle.shade_values.specs.Sound.{IsSound};
 ghost use Rattle.shade_words.specs.Lays.{size, Covers};
-ghost use Rattle.shade_words.specs.Types.{lay, type_of, HasParts};
+ghost use Rattle.shade_words.specs.Types.{lay, type_of, HasElements, HasParts};
 ghost use Rattle.shade_words.specs.Ways.{part_offset, part_count};
 
 use crate::members::{PartWord, member_offset, member_with, words_of};
@@ -31,6 +31,21 @@ pub fn part_offset(types: &TypeTable, ty: TypeId, k: usize) -> usize
         ShadeType::Array(_, _) => k * words_of(layout.stride),
         ShadeType::Struct(number) => member_offset(types, number, k),
         _ => 0,
+    }
+}
+
+/// How many elements a vector or an array has.
+pub(crate) fn element_count(types: &TypeTable, ty: TypeId) -> u32
+    requires known { ty.0 < length types.now.types }
+    requires elements { HasElements (type_of types.now ty) }
+    ensures count { result ≡ part_count (lay types.now ty) }
+    ensures some { 0 < result }
+    ensures sound { IsSound types.now }
+{
+    match *types.get(ty) {
+        ShadeType::Vector(count, _) => u32::from(count),
+        ShadeType::Array(_, count) => count,
+        _ => 1,
     }
 }
 

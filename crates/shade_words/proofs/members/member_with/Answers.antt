@@ -1,7 +1,6 @@
-use Rattle.std.proofs.Common.{◌≡◌, ◌+◌, ◌-◌, ◌/◌, ◌≤◌, ◌<◌, ◌⊎◌, inl, inr, sym, ap, subst, ◌∙◌, arith, get_or, length, below_more}
-use Rattle.shade_values.specs.Shape.{shapes, shape_of}
+use Rattle.std.proofs.Common.{◌≡◌, ◌+◌, ◌-◌, ◌/◌, ◌≤◌, ◌<◌, inl, inr, sym, ap, subst, ◌∙◌, arith, get_or, length, below_more}
+use Rattle.shade_values.specs.Shape.{shapes}
 use Rattle.shade_values.specs.Table.{members_at}
-use Rattle.shade_values.specs.Layouts.{layout}
 use Rattle.shade_words.specs.Lays.{size, Covers}
 use Rattle.shade_words.specs.Types.{members_lay, lay}
 use Rattle.shade_words.specs.Ways.{field_offset, field_lay, field_count}

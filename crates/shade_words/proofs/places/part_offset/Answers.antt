@@ -1,8 +1,8 @@
-use Rattle.std.proofs.Common.{◌≡◌, ◌*◌, ◌/◌, ◌≤◌, ◌<◌, ◌+◌, ◌⊎◌, inl, inr, Some, slice_get, sym, ap, subst, ◌∙◌, arith}
-use Rattle.shade_values.specs.declared.types.ShadeType.TheVariants.{Vector, Array, Struct, Exchanged}
+use Rattle.std.proofs.Common.{◌≡◌, ◌*◌, ◌/◌, ◌≤◌, inl, inr, Some, slice_get, ap, ◌∙◌, arith}
+use Rattle.shade_values.specs.declared.types.ShadeType.TheVariants.{Array}
 use Rattle.shade_words.specs.Lays.{size}
 use Rattle.shade_words.specs.Types.{lay}
-use Rattle.shade_words.specs.Ways.{part_offset, part_lay}
+use Rattle.shade_words.specs.Ways.{part_offset}
 use Rattle.shade_words.proofs.Layouts.{part_ends}
 use Rattle.shade_words.proofs.TypeLaws.{lay_lies}
 use Rattle.shade_words.proofs.PlaceLaws.{vector_offset, exchanged_offset, array_offset, struct_offset, struct_is, no_offset}

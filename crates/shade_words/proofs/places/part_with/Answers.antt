@@ -1,5 +1,5 @@
-use Rattle.std.proofs.Common.{◌≡◌, ◌/◌, ◌≤◌, ◌<◌, Some, slice_get, sym, ap, subst, ◌∙◌, arith}
-use Rattle.shade_values.specs.declared.types.ShadeType.TheVariants.{Array, RuntimeArray, Struct}
+use Rattle.std.proofs.Common.{◌/◌, Some, ap, subst, ◌∙◌, arith}
+use Rattle.shade_values.specs.declared.types.ShadeType.TheVariants.{Struct}
 use Rattle.shade_words.specs.Types.{HasParts}
 use Rattle.shade_words.proofs.PlaceLaws.{type_is, struct_is, no_parts, array_some, array_below, array_none, runtime_some, runtime_below, runtime_none, struct_some, struct_none}
 use Rattle.shade_words.proofs.places.part_with.Goals as goal
