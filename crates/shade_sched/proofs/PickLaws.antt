@@ -70,8 +70,10 @@ taken_all gives limit old now step told taken few all is =
       end = is;
     }
 
-pub taken_some : (gives : ℕ → ℕ → ℕ → Type 0) (limit : ℕ) (old now : Machine) (step : ℕ) → Taken gives old now step → step < limit → IsCutRun gives limit old now
-taken_some gives limit old now step taken few = let count : length taken.picks ≡ step = taken.count in record { picks = taken.picks; able = taken.able; given = taken.given; made = taken.made; few = omega (arith, count, few) }
+pub taken_some : (gives : ℕ → ℕ → ℕ → Type 0) (limit : ℕ) (old now : Machine) (step : ℕ) → Taken gives old now step → step < limit → run_end_of now ≡ run_end.Running → IsCutRun gives limit old now
+taken_some gives limit old now step taken few running =
+    let count : length taken.picks ≡ step = taken.count in
+    record { picks = taken.picks; able = taken.able; given = taken.given; made = taken.made; running = running; few = omega (arith, count, few) }
 
 pub on_err : {T E : Type 0} (r : Result T E) (P : Type 0) → P → OnErr r P
 on_err (Ok x) P h = tt

@@ -59,4 +59,5 @@ pub record IsCutRun (gives : ℕ → ℕ → ℕ → Type 0) (limit : ℕ) (old 
   pub able : AreAble old picks
   pub given : AreGiven gives 0 old picks
   pub made : new ≡ chosen old picks
+  pub running : run_end_of new ≡ run_end.Running
   pub few : length picks < limit

@@ -24,7 +24,7 @@ returns-clause-ok g c =
 
 pub returns-in_err-step_chosen-clause-err : goal.returns-in_err-step_chosen-clause-err
 returns-in_err-step_chosen-clause-err g c =
-    let goes : c.steps.step < c.args.limit = (c.steps-test.ensures.runs refl).0 in
+    let goes = c.steps-test.ensures.runs refl in
     on_err c.from_residual.result _
     (subst (λ m. IsCutRun (g.F.Choosing.gives c.args.chooser.now) c.args.limit (machine_of c.args.group.now) m) (sym c.in_err-step_chosen.ensures.err)
-    (taken_some (g.F.Choosing.gives c.args.chooser.now) c.args.limit (machine_of c.args.group.now) (machine_of c.steps.group) c.steps.step c.steps.invariant.taken goes))
+    (taken_some (g.F.Choosing.gives c.args.chooser.now) c.args.limit (machine_of c.args.group.now) (machine_of c.steps.group) c.steps.step c.steps.invariant.taken goes.0 goes.1))
