@@ -1,7 +1,10 @@
 -- What is kept of the filters of a range tells the clashes.
 use Rattle.std.proofs.Common.{◌≡◌, refl, sym, ap, subst, ◌∙◌, ℕ, ◌+◌, ◌<◌, Bool, true, false, List, [], ◌∷◌, ◌++◌, length, get_or, drop, Option, Some, None, arith, true≢false}
 use Rattle.std.proofs.lemmas.Bool.Decides.{nat_tests}
-use Rattle.std.specs.HashMap.{HashMap, Updates, get}
+use Rattle.std.specs.BTreeMap.{BTreeMap, Updates, get}
+use Rattle.std.specs.declared.cmp.Ordering.{Ordering}
+use Rattle.std.specs.Ordering.{is_eq, nat_cmp, ordering_then}
+use Rattle.std.specs.declared.cmp.Ordering.TheVariants.{Less, Equal, Greater}
 use Rattle.std.specs.List.{list_any}
 use Rattle.std.specs.Prelude.{◌&&◌, ◌||◌, ◌==◌, not, if◌then◌else◌}
 use Rattle.shade_base.specs.declared.severity.Severity.{Severity}
@@ -16,7 +19,7 @@ use Rattle.shade_scope.specs.declared.fault.ScopeFault.{ScopeFault}
 use Rattle.shade_scope.specs.declared.fault.ScopeFault.TheVariants as fault
 use Rattle.shade_scope.specs.Conflicts.{clashes, conflict_of, conflicts, is_clash, is_same_rule, rank, with_filter}
 use Rattle.shade_scope.specs.Faults.{earlier, least_of}
-use Rattle.shade_scope.specs.Given.{Key, Keeps, conflict_by, differs, is_key, joined, key, summary, taken}
+use Rattle.shade_scope.specs.Given.{Key, Keeps, conflict_by, differs, key_cmp, joined, key, summary, taken}
 use Rattle.shade_scope.proofs.FaultLaws.{least_turn}
 use Rattle.shade_scope.proofs.TurnLaws.{drop_next}
 
@@ -74,11 +77,19 @@ summary_more rule o (g ∷ gs) f = summary_more rule (taken rule o g) gs f
 
 -- ---- one key a rule
 
-key_same : (p q : RuleName) → is_key (key p) (key q) ≡ is_same_rule p q
-key_same (named_rule.Plain a) (named_rule.Plain b) = refl
+eq_same : (m n : ℕ) → is_eq (nat_cmp m n) ≡ (m == n)
+eq_same m n = grind (arith, nat_tests)
+
+then_same : (o p : Ordering) → is_eq (ordering_then o p) ≡ (is_eq o && is_eq p)
+then_same Less p = refl
+then_same Equal p = refl
+then_same Greater p = refl
+
+key_same : (p q : RuleName) → is_eq (key_cmp (key p) (key q)) ≡ is_same_rule p q
+key_same (named_rule.Plain a) (named_rule.Plain b) = eq_same a b
 key_same (named_rule.Plain a) (named_rule.Scoped c d) = refl
 key_same (named_rule.Scoped a b) (named_rule.Plain c) = refl
-key_same (named_rule.Scoped a b) (named_rule.Scoped c d) = refl
+key_same (named_rule.Scoped a b) (named_rule.Scoped c d) = then_same (nat_cmp a c) (nat_cmp b d) ∙ (λ i. eq_same a c i && eq_same b d i)
 
 both_of : (a b : Bool) → (a && b) ≡ true → (a ≡ true) × (b ≡ true)
 both_of true true e = (refl, refl)
@@ -93,87 +104,86 @@ rule_of (named_rule.Scoped a b) (named_rule.Scoped c d) e =
     let parts : ((a == c) ≡ true) × ((b == d) ≡ true) = both_of (a == c) (b == d) e in
     ap (λ n. named_rule.Scoped n b) (same_of a c parts.0) ∙ ap (named_rule.Scoped c) (same_of b d parts.1)
 
-module _ {S : Type 0} where
-  -- what is kept is what the filters of the range give
-  pub record Agrees (rules : HashMap Key Given S) (before : List Filter) : Type 0 where
-    pub at : (rule : RuleName) → get is_key rules (key rule) ≡ summary rule None before
+-- what is kept is what the filters of the range give
+pub record Agrees (rules : BTreeMap Key Given) (before : List Filter) : Type 0 where
+  pub at : (rule : RuleName) → get key_cmp rules (key rule) ≡ summary rule None before
 
-  -- one more filter was put in
-  pub filter_kept : (old new : HashMap Key Given S) (e : Event) (f : Filter) (before : Option Given) (made : Given) (k : Key)
-      → e ≡ event.Filters f → before ≡ get is_key old (key f.rule) → made ≡ joined before f.severity → k ≡ key f.rule → Updates is_key old new k (Some made) → Keeps old new e
-  filter_kept old new e f before made k is is_before is_made is_k put =
-      let here : Updates is_key old new (key f.rule) (Some made) = subst (λ (x : Key). Updates is_key old new x (Some made)) is_k put in
-      let all : Keeps old new (event.Filters f) = subst (λ (g : Given). Updates is_key old new (key f.rule) (Some g)) (is_made ∙ ap (λ o. joined o f.severity) is_before) here in
-      subst (λ (x : Event). Keeps old new x) (sym is) all
+-- one more filter was put in
+pub filter_kept : (old new : BTreeMap Key Given) (e : Event) (f : Filter) (before : Option Given) (made : Given) (k : Key)
+    → e ≡ event.Filters f → before ≡ get key_cmp old (key f.rule) → made ≡ joined before f.severity → k ≡ key f.rule → Updates key_cmp old new k (Some made) → Keeps old new e
+filter_kept old new e f before made k is is_before is_made is_k put =
+    let here : Updates key_cmp old new (key f.rule) (Some made) = subst (λ (x : Key). Updates key_cmp old new x (Some made)) is_k put in
+    let all : Keeps old new (event.Filters f) = subst (λ (g : Given). Updates key_cmp old new (key f.rule) (Some g)) (is_made ∙ ap (λ o. joined o f.severity) is_before) here in
+    subst (λ (x : Event). Keeps old new x) (sym is) all
 
-  empty_get : (rules : HashMap Key Given S) (k : Key) → rules.entries ≡ [] → get is_key rules k ≡ None
-  empty_get rules k e = search
+empty_get : (rules : BTreeMap Key Given) (k : Key) → rules.entries ≡ [] → get key_cmp rules k ≡ None
+empty_get rules k e = search
 
-  pub none_kept : (rules : HashMap Key Given S) → rules.entries ≡ [] → Agrees rules []
-  none_kept rules e = record { at = λ rule. empty_get rules (key rule) e }
+pub none_kept : (rules : BTreeMap Key Given) → rules.entries ≡ [] → Agrees rules []
+none_kept rules e = record { at = λ rule. empty_get rules (key rule) e }
 
-  one_kept : (b : Bool) (old : HashMap Key Given S) (before : List Filter) (f : Filter) (rule : RuleName) → Agrees old before → is_same_rule f.rule rule ≡ b
-      → (if b then Some (joined (get is_key old (key f.rule)) f.severity) else get is_key old (key rule)) ≡ (if b then Some (joined (summary rule None before) f.severity) else summary rule None before)
-  one_kept true old before f rule h e = ap (λ o. Some (joined o f.severity)) (h.at f.rule ∙ ap (λ r. summary r None before) (rule_of f.rule rule e))
-  one_kept false old before f rule h e = h.at rule
+one_kept : (b : Bool) (old : BTreeMap Key Given) (before : List Filter) (f : Filter) (rule : RuleName) → Agrees old before → is_same_rule f.rule rule ≡ b
+    → (if b then Some (joined (get key_cmp old (key f.rule)) f.severity) else get key_cmp old (key rule)) ≡ (if b then Some (joined (summary rule None before) f.severity) else summary rule None before)
+one_kept true old before f rule h e = ap (λ o. Some (joined o f.severity)) (h.at f.rule ∙ ap (λ r. summary r None before) (rule_of f.rule rule e))
+one_kept false old before f rule h e = h.at rule
 
-  pub more_kept : (old new : HashMap Key Given S) (before : List Filter) (e : Event) → Keeps old new e → Agrees old before → Agrees new (with_filter before e)
-  more_kept old new before event.Covers k h = none_kept new k
-  more_kept old new before (event.Filters f) k h = record {
-    at = λ rule.
-        k.0 (key rule)
-        ∙ ap (λ b. if b then Some (joined (get is_key old (key f.rule)) f.severity) else get is_key old (key rule)) (key_same f.rule rule)
-        ∙ one_kept (is_same_rule f.rule rule) old before f rule h refl ∙ sym (summary_more rule None before f);
-  }
-  more_kept old new before event.Opens k h = subst (λ m. Agrees m before) (sym k) h
-  more_kept old new before event.Closes k h = subst (λ m. Agrees m before) (sym k) h
-  more_kept old new before (event.Declares n entry) k h = subst (λ m. Agrees m before) (sym k) h
-  more_kept old new before (event.Uses n called) k h = subst (λ m. Agrees m before) (sym k) h
-  more_kept old new before (event.Enters node) k h = subst (λ m. Agrees m before) (sym k) h
-  more_kept old new before (event.LacksSeverity place) k h = subst (λ m. Agrees m before) (sym k) h
-  more_kept old new before event.Uncovers k h = subst (λ m. Agrees m before) (sym k) h
-  more_kept old new before (event.Node node) k h = subst (λ m. Agrees m before) (sym k) h
-  more_kept old new before event.Loops k h = subst (λ m. Agrees m before) (sym k) h
-  more_kept old new before (event.Continues place) k h = subst (λ m. Agrees m before) (sym k) h
-  more_kept old new before event.Turns k h = subst (λ m. Agrees m before) (sym k) h
-  more_kept old new before event.LoopEnds k h = subst (λ m. Agrees m before) (sym k) h
+pub more_kept : (old new : BTreeMap Key Given) (before : List Filter) (e : Event) → Keeps old new e → Agrees old before → Agrees new (with_filter before e)
+more_kept old new before event.Covers k h = none_kept new k
+more_kept old new before (event.Filters f) k h = record {
+  at = λ rule.
+      k.0 (key rule)
+      ∙ ap (λ b. if b then Some (joined (get key_cmp old (key f.rule)) f.severity) else get key_cmp old (key rule)) (key_same f.rule rule)
+      ∙ one_kept (is_same_rule f.rule rule) old before f rule h refl ∙ sym (summary_more rule None before f);
+}
+more_kept old new before event.Opens k h = subst (λ m. Agrees m before) (sym k) h
+more_kept old new before event.Closes k h = subst (λ m. Agrees m before) (sym k) h
+more_kept old new before (event.Declares n entry) k h = subst (λ m. Agrees m before) (sym k) h
+more_kept old new before (event.Uses n called) k h = subst (λ m. Agrees m before) (sym k) h
+more_kept old new before (event.Enters node) k h = subst (λ m. Agrees m before) (sym k) h
+more_kept old new before (event.LacksSeverity place) k h = subst (λ m. Agrees m before) (sym k) h
+more_kept old new before event.Uncovers k h = subst (λ m. Agrees m before) (sym k) h
+more_kept old new before (event.Node node) k h = subst (λ m. Agrees m before) (sym k) h
+more_kept old new before event.Loops k h = subst (λ m. Agrees m before) (sym k) h
+more_kept old new before (event.Continues place) k h = subst (λ m. Agrees m before) (sym k) h
+more_kept old new before event.Turns k h = subst (λ m. Agrees m before) (sym k) h
+more_kept old new before event.LoopEnds k h = subst (λ m. Agrees m before) (sym k) h
 
-  told_same : (rules : HashMap Key Given S) (before : List Filter) (e : Event) → Agrees rules before → conflict_by rules e ≡ conflict_of before e
-  told_same rules before (event.Filters f) h =
-      ap (λ b. if b then fault.Conflict f.place ∷ [] else []) (ap (λ o. differs o f.severity) (h.at f.rule) ∙ tells f None before)
-  told_same rules before event.Covers h = refl
-  told_same rules before event.Opens h = refl
-  told_same rules before event.Closes h = refl
-  told_same rules before (event.Declares n entry) h = refl
-  told_same rules before (event.Uses n called) h = refl
-  told_same rules before (event.Enters node) h = refl
-  told_same rules before (event.LacksSeverity place) h = refl
-  told_same rules before event.Uncovers h = refl
-  told_same rules before (event.Node node) h = refl
-  told_same rules before event.Loops h = refl
-  told_same rules before (event.Continues place) h = refl
-  told_same rules before event.Turns h = refl
-  told_same rules before event.LoopEnds h = refl
+told_same : (rules : BTreeMap Key Given) (before : List Filter) (e : Event) → Agrees rules before → conflict_by rules e ≡ conflict_of before e
+told_same rules before (event.Filters f) h =
+    ap (λ b. if b then fault.Conflict f.place ∷ [] else []) (ap (λ o. differs o f.severity) (h.at f.rule) ∙ tells f None before)
+told_same rules before event.Covers h = refl
+told_same rules before event.Opens h = refl
+told_same rules before event.Closes h = refl
+told_same rules before (event.Declares n entry) h = refl
+told_same rules before (event.Uses n called) h = refl
+told_same rules before (event.Enters node) h = refl
+told_same rules before (event.LacksSeverity place) h = refl
+told_same rules before event.Uncovers h = refl
+told_same rules before (event.Node node) h = refl
+told_same rules before event.Loops h = refl
+told_same rules before (event.Continues place) h = refl
+told_same rules before event.Turns h = refl
+told_same rules before event.LoopEnds h = refl
 
-  -- ---- one more event
+-- ---- one more event
 
-  -- after so many events
-  pub record AreKept (events : List Event) (i : ℕ) (rules : HashMap Key Given S) (least : Option ScopeFault) : Type 0 where
-    pub before : List Filter
-    pub agrees : Agrees rules before
-    pub first : earlier least (least_of (conflicts before (drop i events))) ≡ least_of (conflicts [] events)
+-- after so many events
+pub record AreKept (events : List Event) (i : ℕ) (rules : BTreeMap Key Given) (least : Option ScopeFault) : Type 0 where
+  pub before : List Filter
+  pub agrees : Agrees rules before
+  pub first : earlier least (least_of (conflicts before (drop i events))) ≡ least_of (conflicts [] events)
 
-  pub begun : (events : List Event) (rules : HashMap Key Given S) → rules.entries ≡ [] → AreKept events 0 rules None
-  begun events rules e = record { before = []; agrees = none_kept rules e; first = refl }
+pub begun : (events : List Event) (rules : BTreeMap Key Given) → rules.entries ≡ [] → AreKept events 0 rules None
+begun events rules e = record { before = []; agrees = none_kept rules e; first = refl }
 
-  pub conflicts_turn : (events : List Event) (i : ℕ) (d : Event) → i < length events → (old new : HashMap Key Given S) (least f later : Option ScopeFault)
-      → f ≡ least_of (conflict_by old (get_or events i d)) → later ≡ earlier least f → Keeps old new (get_or events i d)
-      → AreKept events i old least → AreKept events (i + 1) new later
-  conflicts_turn events i d lt old new least f later is_f is_later keeps h =
-      let e : Event = get_or events i d in
-      record {
-        before = with_filter h.before e;
-        agrees = more_kept old new h.before e keeps h.agrees;
-        first = least_turn least f later (conflict_of h.before e) (conflicts (with_filter h.before e) (drop (i + 1) events)) (is_f ∙ ap least_of (told_same old h.before e h.agrees)) is_later
-            (ap (λ es. earlier least (least_of (conflicts h.before es))) (sym (drop_next events i d lt)) ∙ h.first);
-      }
+pub conflicts_turn : (events : List Event) (i : ℕ) (d : Event) → i < length events → (old new : BTreeMap Key Given) (least f later : Option ScopeFault)
+    → f ≡ least_of (conflict_by old (get_or events i d)) → later ≡ earlier least f → Keeps old new (get_or events i d)
+    → AreKept events i old least → AreKept events (i + 1) new later
+conflicts_turn events i d lt old new least f later is_f is_later keeps h =
+    let e : Event = get_or events i d in
+    record {
+      before = with_filter h.before e;
+      agrees = more_kept old new h.before e keeps h.agrees;
+      first = least_turn least f later (conflict_of h.before e) (conflicts (with_filter h.before e) (drop (i + 1) events)) (is_f ∙ ap least_of (told_same old h.before e h.agrees)) is_later
+          (ap (λ es. earlier least (least_of (conflicts h.before es))) (sym (drop_next events i d lt)) ∙ h.first);
+    }

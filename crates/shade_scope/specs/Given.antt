@@ -1,7 +1,9 @@
 -- On the way: what is kept of the filters of a range, so that one that clashes with any of them is found by one look-up.
-use Rattle.std.specs.Prelude.{◌≡◌, ℕ, Bool, true, false, ◌&&◌, not, nat_eq, List, [], ◌∷◌, Option, None, Some, ◌==◌, if◌then◌else◌}
-use Rattle.std.specs.Option.{option_eq}
-use Rattle.std.specs.HashMap.{HashMap, Updates, get}
+use Rattle.std.specs.Prelude.{◌≡◌, ℕ, Bool, true, false, not, List, [], ◌∷◌, Option, None, Some, ◌==◌, if◌then◌else◌}
+use Rattle.std.specs.Option.{option_cmp}
+use Rattle.std.specs.declared.cmp.Ordering.{Ordering}
+use Rattle.std.specs.Ordering.{nat_cmp, ordering_then}
+use Rattle.std.specs.BTreeMap.{BTreeMap, Updates, get}
 use Rattle.shade_base.specs.declared.severity.Severity.{Severity}
 use Rattle.shade_events.specs.declared.event.Event.{Event}
 use Rattle.shade_events.specs.declared.event.Event.TheVariants as event
@@ -21,8 +23,8 @@ abbrev pub key : RuleName → Key
 key (named_rule.Plain name) = (None, name)
 key (named_rule.Scoped scope name) = (Some scope, name)
 
-abbrev pub is_key : Key → Key → Bool
-is_key a b = option_eq nat_eq a.0 b.0 && nat_eq a.1 b.1
+abbrev pub key_cmp : Key → Key → Ordering
+key_cmp a b = ordering_then (option_cmp nat_cmp a.0 b.0) (nat_cmp a.1 b.1)
 
 -- whether a filter clashes with one of those of its rule
 abbrev pub differs : Option Given → Severity → Bool
@@ -43,13 +45,12 @@ abbrev pub summary : RuleName → Option Given → List Filter → Option Given
 summary rule before [] = before
 summary rule before (f ∷ fs) = summary rule (taken rule before f) fs
 
-module _ {S : Type 0} where
-  abbrev pub conflict_by : HashMap Key Given S → Event → List ScopeFault
-  conflict_by rules (event.Filters f) = if differs (get is_key rules (key f.rule)) f.severity then fault.Conflict f.place ∷ [] else []
-  conflict_by rules _ = []
+abbrev pub conflict_by : BTreeMap Key Given → Event → List ScopeFault
+conflict_by rules (event.Filters f) = if differs (get key_cmp rules (key f.rule)) f.severity then fault.Conflict f.place ∷ [] else []
+conflict_by rules _ = []
 
-  -- how what is kept changes with an event
-  abbrev pub Keeps : HashMap Key Given S → HashMap Key Given S → Event → Type 0
-  Keeps old new event.Covers = new.entries ≡ []
-  Keeps old new (event.Filters f) = Updates is_key old new (key f.rule) (Some (joined (get is_key old (key f.rule)) f.severity))
-  Keeps old new _ = new ≡ old
+-- how what is kept changes with an event
+abbrev pub Keeps : BTreeMap Key Given → BTreeMap Key Given → Event → Type 0
+Keeps old new event.Covers = new.entries ≡ []
+Keeps old new (event.Filters f) = Updates key_cmp old new (key f.rule) (Some (joined (get key_cmp old (key f.rule)) f.severity))
+Keeps old new _ = new ≡ old

@@ -1,17 +1,17 @@
 //! Filters of one range that give one rule unlike severities.
 
 ghost use Rattle.std.specs.Prelude.{◌≡◌, not, [], IfOk, OnOk};
-ghost use Rattle.std.specs.HashMap.{get};
+ghost use Rattle.std.specs.BTreeMap.{get};
 ghost use Rattle.shade_scope.specs.Conflicts.{conflicts, rank};
 ghost use Rattle.shade_scope.specs.Faults.{least_of};
-ghost use Rattle.shade_scope.specs.Given.{Keeps, conflict_by, differs, is_key, joined, key};
+ghost use Rattle.shade_scope.specs.Given.{Keeps, conflict_by, differs, joined, key, key_cmp};
 
 use crate::fault::ScopeFault;
 use crate::naming::earlier;
 use shade_base::Severity;
 use shade_events::{Event, RuleName};
 use std::alloc::{AllocError, Global};
-use std::collections::HashMap;
+use std::collections::BTreeMap;
 
 /// What the filters of one range give a rule: one severity, or unlike ones.
 #[derive(Clone, Copy, Debug, PartialEq, Eq)]
@@ -68,14 +68,14 @@ fn joined(given: Option<Given>, severity: Severity) -> Given
 }
 
 /// What the filters of a rule give it.
-fn given_to(rules: &HashMap<(Option<u32>, u32), Given>, rule: RuleName) -> Option<Given>
-    ensures { result ≡ get is_key rules.now (key rule) }
+fn given_to(rules: &BTreeMap<(Option<u32>, u32), Given>, rule: RuleName) -> Option<Given>
+    ensures { result ≡ get key_cmp rules.now (key rule) }
 {
     let key = key(rule);
     rules.get(&key).copied()
 }
 
-fn conflict_of(rules: &HashMap<(Option<u32>, u32), Given>, event: Event) -> Option<ScopeFault>
+fn conflict_of(rules: &BTreeMap<(Option<u32>, u32), Given>, event: Event) -> Option<ScopeFault>
     ensures { result ≡ least_of (conflict_by rules.now event) }
 {
     match event {
@@ -92,13 +92,13 @@ fn conflict_of(rules: &HashMap<(Option<u32>, u32), Given>, event: Event) -> Opti
 /// Keeps what the filters of the range that began last give.
 fn keep_filter(
     alloc: Global,
-    rules: &mut HashMap<(Option<u32>, u32), Given>,
+    rules: &mut BTreeMap<(Option<u32>, u32), Given>,
     event: Event,
 ) -> Result<(), AllocError>
     ensures { OnOk result (Keeps rules.old rules.new event) }
 {
     match event {
-        Event::Covers => *rules = HashMap::new(alloc),
+        Event::Covers => *rules = BTreeMap::new(alloc),
         Event::Filters(filter) => {
             let given = joined(given_to(rules, filter.rule), filter.severity);
             rules.insert(key(filter.rule), given)?;
@@ -108,12 +108,12 @@ fn keep_filter(
     Ok(())
 }
 
-/// Gives the first filter that clashes with one before it for the same range. Takes time in the order of the events, and memory for the rules
-/// of one range.
+/// Gives the first filter that clashes with one before it for the same range. Takes time in the order of the events, but for the look-ups of
+/// rules, and memory for the rules of one range.
 pub fn least_conflict(alloc: Global, events: &[Event]) -> Result<Option<ScopeFault>, AllocError>
     ensures { IfOk result (λ least. least ≡ least_of (conflicts [] events.now)) }
 {
-    let mut rules = HashMap::new(alloc);
+    let mut rules = BTreeMap::new(alloc);
     let mut least = None;
     for event in events {
         least = earlier(least, conflict_of(&rules, *event));
