@@ -24,3 +24,5 @@ mod parse;
 mod parse_expr;
 #[cfg(test)]
 mod reading;
+#[cfg(test)]
+mod scope;
