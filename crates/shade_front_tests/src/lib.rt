@@ -25,4 +25,6 @@ mod parse_expr;
 #[cfg(test)]
 mod reading;
 #[cfg(test)]
+mod room;
+#[cfg(test)]
 mod scope;
