@@ -1,11 +1,9 @@
 //! Operations on constants and constant expressions, worked out by hand from the rules.
 
-use crate::reading::place;
-use shade_ast::{Expr, NameKey, Names};
+use crate::reading::{expr_of, place};
 use shade_const::{ConstEnv, ConstFault, Fact, Scalars, constant};
 use shade_evaluate::{Operation, evaluate, own_leaf};
-use shade_lex::{lex, templates};
-use shade_parse_expr::{Goal, expression};
+use shade_parse_expr::Goal;
 use shade_values::{Leaf, Op, Parts, Scalar, Value, same_value};
 use sqlite_items::Items;
 use std::alloc::{AllocError, Global};
@@ -450,27 +448,10 @@ fn facts(alloc: Global, rows: &[(u32, Row)]) -> Result<ConstEnv, AllocError> {
     Ok(env)
 }
 
-/// The expression that a text is.
-fn parsed(alloc: Global, text: &str) -> Option<Expr> {
-    if text.len() > 1_048_576 {
-        return None;
-    }
-    let tokens = lex(alloc, text).ok()?;
-    let pairs = templates(alloc, &tokens).ok()?;
-    if tokens.as_slice().len() > 1_048_576 {
-        return None;
-    }
-    let mut names = Names::new(alloc, NameKey::of(text));
-    match expression(alloc, &tokens, &pairs, &mut names, Goal::Whole, 0, 0) {
-        Ok((read, _, _)) => Some(read),
-        Err(_) => None,
-    }
-}
-
 /// The value of the expression that a text is; `None` where it is none, or there is no memory.
 fn told(alloc: Global, text: &str, rows: &[(u32, Row)]) -> Option<Result<Leaf, ConstFault>> {
     let env = facts(alloc, rows).ok()?;
-    let expr = parsed(alloc, text)?;
+    let expr = expr_of(alloc, text, Goal::Whole)?;
     Some(given(constant(alloc, &expr, &env)))
 }
 
@@ -674,7 +655,7 @@ fn sum(alloc: Global, count: u32) -> Result<(String, ConstEnv), AllocError> {
 fn a_thousand_operators(rt: HostRuntime) -> Result<(), Fail> {
     let alloc = rt.alloc();
     let (text, env) = sum(alloc, 1000)?;
-    let expr = parsed(alloc, &text).ok_or("no expression")?;
+    let expr = expr_of(alloc, &text, Goal::Whole).ok_or("no expression")?;
     let value = given(constant(alloc, &expr, &env));
     assert_eq!(&rt;
         value,

@@ -28,3 +28,5 @@ mod reading;
 mod room;
 #[cfg(test)]
 mod scope;
+#[cfg(test)]
+mod steps;
