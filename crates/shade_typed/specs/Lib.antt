@@ -1,0 +1,5 @@
+pub mod Answers
+pub mod Contexts
+pub mod Places
+pub mod Rules
+pub mod Simple
