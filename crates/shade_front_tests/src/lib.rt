@@ -7,13 +7,9 @@ mod ast;
 #[cfg(test)]
 mod base;
 #[cfg(test)]
-mod constants;
-#[cfg(test)]
 mod first;
 #[cfg(test)]
 mod job;
-#[cfg(test)]
-mod known;
 #[cfg(test)]
 mod lex;
 #[cfg(test)]
@@ -26,7 +22,3 @@ mod parse_expr;
 mod reading;
 #[cfg(test)]
 mod room;
-#[cfg(test)]
-mod scope;
-#[cfg(test)]
-mod steps;
