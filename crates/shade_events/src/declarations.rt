@@ -3,7 +3,7 @@
 ghost use Rattle.std.specs.Prelude.{◌≡◌, ◌++◌, ◌∷◌, [], IfOk, OnOk};
 ghost use Rattle.std.specs.List.{flat_map, list_any};
 ghost use Rattle.shade_events.specs.Filters.{directive_filter};
-ghost use Rattle.shade_events.specs.Events.{decl_events, decl_kind_events, declared_name, declared_node, directive_events, directive_kind_events, directives_events, filter_events, head_events, heading, is_entry, is_entry_name, maybe, member_declares, member_uses, node_of, param_events, result_events, rule_events, scope, tree_events};
+ghost use Rattle.shade_events.specs.Events.{attrs_events, decl_events, decl_kind_events, declared_name, declared_node, directive_events, directive_kind_events, directives_events, filter_events, head_events, heading, is_entry, is_entry_name, maybe, member_declares, member_uses, node_of, param_events, range, range_end, result_events, rule_events, scope, tree_events, used, var_uses};
 
 use crate::event::{Event, Role};
 use crate::expressions::{
@@ -13,8 +13,8 @@ use crate::filters::{bad_directive, directive_filter};
 use crate::statements::{add_binding_uses, add_body, add_declaration, add_var_uses, end_range};
 use crate::words::makes_entry;
 use shade_ast::{
-    Attr, AttrName, Decl, DeclKind, Directive, DirectiveKind, FnResult, Member, Named, Names, Rule,
-    Tree,
+    Attr, AttrName, Decl, DeclKind, Directive, DirectiveKind, Expr, FnResult, Member, Named, Names,
+    Rule, Tree, Var,
 };
 use sqlite_items::Items;
 use std::alloc::{AllocError, Global};
@@ -85,6 +85,74 @@ fn add_result(
     add_uses(&given.ty, Role::Used, out)
 }
 
+fn add_alias(name: Named, ty: &Expr, out: &mut Items<Event>) -> Result<(), AllocError>
+    ensures { OnOk result (out.new ≡ out.old ++ (node_of name ++ used ty.now)) }
+{
+    add_node(name, out)?;
+    add_uses(ty, Role::Used, out)
+}
+
+fn add_struct(
+    names: &Names,
+    name: Named,
+    members: &[Member],
+    out: &mut Items<Event>,
+) -> Result<(), AllocError>
+    ensures { OnOk result (out.new ≡ out.old ++ (node_of name ++ flat_map (member_uses names.now) members.now ++ scope (flat_map member_declares members.now))) }
+{
+    add_node(name, out)?;
+    add_members(names, members, out)?;
+    add_member_scope(members, out)
+}
+
+/// Adds what happens in the attributes of a `var`, and what it uses.
+fn add_module_var(
+    names: &Names,
+    attrs: &[Attr],
+    var: &Var,
+    out: &mut Items<Event>,
+) -> Result<(), AllocError>
+    ensures { OnOk result (out.new ≡ out.old ++ (attrs_events names.now attrs.now ++ var_uses var.now)) }
+{
+    add_attrs(names, attrs, out)?;
+    add_var_uses(var, out)
+}
+
+/// Adds what happens in attributes, and the node of the name behind them.
+fn add_attrs_and_name(
+    names: &Names,
+    attrs: &[Attr],
+    name: Named,
+    out: &mut Items<Event>,
+) -> Result<(), AllocError>
+    ensures { OnOk result (out.new ≡ out.old ++ (attrs_events names.now attrs.now ++ node_of name)) }
+{
+    add_attrs(names, attrs, out)?;
+    add_node(name, out)
+}
+
+/// Adds that the range of a function begins, the node of its name, and that its scope begins.
+fn begin_function(
+    names: &Names,
+    attrs: &[Attr],
+    name: Named,
+    out: &mut Items<Event>,
+) -> Result<(), AllocError>
+    ensures { OnOk result (out.new ≡ out.old ++ (range names.now attrs.now ++ node_of name ++ Event.Opens ∷ [])) }
+{
+    add_range(names, attrs, out)?;
+    add_node(name, out)?;
+    out.push(Event::Opens)
+}
+
+/// Adds that the scope and the range of a function end.
+fn end_function(node: u32, out: &mut Items<Event>) -> Result<(), AllocError>
+    ensures { OnOk result (out.new ≡ out.old ++ (Event.Closes ∷ [] ++ range_end node)) }
+{
+    out.push(Event::Closes)?;
+    end_range(node, out)
+}
+
 fn add_decl_kind(
     names: &Names,
     kind: &DeclKind,
@@ -95,21 +163,13 @@ fn add_decl_kind(
 {
     match kind {
         DeclKind::Empty => (),
-        DeclKind::Alias { name, ty } => {
-            add_node(*name, out)?;
-            add_uses(ty, Role::Used, out)?;
-        }
+        DeclKind::Alias { name, ty } => add_alias(*name, ty, out)?,
         DeclKind::Const(binding) => add_binding_uses(binding, out)?,
         DeclKind::ConstAssert(condition) => add_uses(condition, Role::Used, out)?,
         DeclKind::Struct { name, members, .. } => {
-            add_node(*name, out)?;
-            add_members(names, members.as_slice(), out)?;
-            add_member_scope(members.as_slice(), out)?;
+            add_struct(names, *name, members.as_slice(), out)?;
         }
-        DeclKind::Var { attrs, var } => {
-            add_attrs(names, attrs.as_slice(), out)?;
-            add_var_uses(var, out)?;
-        }
+        DeclKind::Var { attrs, var } => add_module_var(names, attrs.as_slice(), var, out)?,
         DeclKind::Override {
             attrs,
             name,
@@ -117,8 +177,7 @@ fn add_decl_kind(
             value,
             ..
         } => {
-            add_attrs(names, attrs.as_slice(), out)?;
-            add_node(*name, out)?;
+            add_attrs_and_name(names, attrs.as_slice(), *name, out)?;
             add_maybe(ty, out)?;
             add_maybe(value, out)?;
         }
@@ -130,14 +189,11 @@ fn add_decl_kind(
             body,
             ..
         } => {
-            add_range(names, attrs.as_slice(), out)?;
-            add_node(*name, out)?;
-            out.push(Event::Opens)?;
+            begin_function(names, attrs.as_slice(), *name, out)?;
             add_params(names, params.as_slice(), out)?;
             add_result(names, given, out)?;
             add_body(names, body, out)?;
-            out.push(Event::Closes)?;
-            return end_range(node, out);
+            return end_function(node, out);
         }
     }
     out.push(Event::Node(node))
