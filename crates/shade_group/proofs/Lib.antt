@@ -2,3 +2,4 @@ pub mod LaneLaws
 pub mod SizeLaws
 pub mod Able
 pub mod OverLaws
+pub mod CountLaws

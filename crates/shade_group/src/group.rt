@@ -29,7 +29,6 @@ impl<'m> Group<'m> {
         ensures ok { OnOk result (machine_of self.new ≡ step_of (machine_of self.old) lane) }
         ensures event { IfOk result (λ e. e ≡ event_of (machine_of self.old) lane) }
         ensures err { OnErr result (machine_of self.new ≡ machine_of self.old) }
-        ensures lanes { length (machine_of self.new).members ≡ length (machine_of self.old).members }
     {
         self.workgroup.step(lane)
     }
@@ -41,7 +40,6 @@ impl<'m> Group<'m> {
         ensures ok { OnOk result (machine_of self.new ≡ run (machine_of self.old) numbers.now) }
         ensures end { IfOk result (λ end. end ≡ run_end_of (machine_of self.new)) }
         ensures err { OnErr result ((n : ℕ) × (n < length numbers.now) × (machine_of self.new ≡ run (machine_of self.old) (take n numbers.now))) }
-        ensures lanes { length (machine_of self.new).members ≡ length (machine_of self.old).members }
     {
         for number in numbers {
             self.step(*number)?;

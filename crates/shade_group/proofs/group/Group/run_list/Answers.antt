@@ -1,4 +1,5 @@
 use Rattle.std.proofs.Common.{◌<◌, ◌∙◌, length, arith}
+use Rattle.shade_group.proofs.CountLaws.{lanes_kept}
 use Rattle.shade_group.proofs.LaneLaws.{run_left, run_done}
 use Rattle.shade_group.proofs.group.Group.run_list.Goals as goal
 
@@ -8,5 +9,5 @@ loop-number-preserved c =
     record {
       left = run_left _ _ _ _ within c.in_ok-step.ensures.ok ∙ c.loop-number.invariant.left;
       done = run_done _ _ _ _ _ within c.in_ok-step.ensures.ok c.loop-number.invariant.done;
-      lanes = c.in_ok-step.ensures.lanes ∙ c.loop-number.invariant.lanes;
+      lanes = lanes_kept _ _ _ c.in_ok-step.ensures.ok ∙ c.loop-number.invariant.lanes;
     }
