@@ -1,3 +1,4 @@
+-- Rules: Counter, Shelf, Sink, MemoryShelf, MemorySink, Lines, Decimals.
 pub mod Counter
 pub mod Shelf
 pub mod Sink

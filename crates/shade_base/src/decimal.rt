@@ -1,4 +1,4 @@
-// Numbers as digits write them.
+//! Numbers as digits write them.
 ghost use Rattle.std.specs.Prelude.{◌<◌, ◌^◌, ◌+◌, ◌-◌, ◌*◌, ◌≡◌, ◌↔◌, IsTrue, length, slice_index};
 ghost use Rattle.std.specs.Option.{SomeIff};
 ghost use Rattle.std.specs.Char.{is_ascii_digit};

@@ -1,4 +1,4 @@
-// A shelf in memory, which fails as it is told.
+//! A shelf in memory, which fails as it is told.
 ghost use Rattle.std.specs.Prelude.{◌≡◌, [], ◌∷◌, ◌++◌, ◌+◌, ◌<◌, Some, None, IfOk, OnOk, IsErrOf, map};
 ghost use Rattle.std.specs.Option.{option_map};
 ghost use Rattle.std.specs.String.{string_bytes};

@@ -1,4 +1,4 @@
-// A sink in memory, which fails as it is told.
+//! A sink in memory, which fails as it is told.
 ghost use Rattle.std.specs.Prelude.{◌≡◌, ℕ, ◌+◌, ◌≤◌, [], Some, IfOk, IsOk, ◌↔◌, length};
 ghost use Rattle.shade_base.specs.MemorySink.{failing_count};
 

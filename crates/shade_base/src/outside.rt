@@ -1,4 +1,4 @@
-// The files and the standard output of the process. They tell nothing of content.
+//! The files and the standard output of the process. They tell nothing of content.
 ghost use Rattle.std.specs.Prelude.{◌≡◌, ℕ, ◌+◌, ◌<◌, ◌≤◌, [], None, map, take, length, vec_len, IfOk, OnOk, OnErr, IfSome};
 ghost use Rattle.std.specs.String.{string_bytes};
 ghost use Rattle.std.specs.Io.KnownBytes.{Appends};

@@ -1,4 +1,4 @@
-// Places in a text.
+//! Places in a text.
 
 /// A place in a text: the bytes before it, and the line and the column that it stands in.
 /// Lines and columns are counted from 1, and columns are counted in bytes.

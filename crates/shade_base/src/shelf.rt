@@ -1,4 +1,4 @@
-// Named texts.
+//! Named texts.
 ghost use Rattle.std.specs.Prelude.{◌≡◌, ℕ, ◌<◌, List, Option, Some, IfOk, IfSome};
 ghost use Rattle.shade_base.specs.declared.shelf.ShelfRefusal.TheVariants.{NoMemory};
 ghost use Rattle.shade_base.specs.Shelf.{IsFailedBy, front_of};

@@ -1,4 +1,4 @@
-// What takes bytes.
+//! What takes bytes.
 ghost use Rattle.std.specs.Prelude.{◌≡◌, ℕ, ◌≤◌, List, Option, length};
 ghost use Rattle.shade_base.specs.Sink.{Takes, IsCountedOnErr};
 

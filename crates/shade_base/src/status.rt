@@ -1,4 +1,4 @@
-// The status of the process.
+//! The status of the process.
 
 /// The status that the process ends with.
 #[derive(Clone, Copy, Debug, PartialEq, Eq)]

@@ -1,3 +1,4 @@
+-- Rules: Events, Keeps. On the way to proofs: Orders, Tops.
 pub mod Events
 pub mod Keeps
 pub mod Orders

@@ -1,3 +1,5 @@
+-- Rules: Code, Behaviour, Control, Places, Atomics, Rules, Standing, Types, Roots, Views, Fits, Scopes, Chains, Limits,
+-- HasShape.
 pub mod Code
 pub mod Behaviour
 pub mod Control

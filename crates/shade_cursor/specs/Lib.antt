@@ -1,3 +1,4 @@
+-- Rules: TokenPlaces, Operators, Passes, Depths. On the way to proofs: Shown, Walks, Makes.
 pub mod Shown
 pub mod TokenPlaces
 pub mod Operators

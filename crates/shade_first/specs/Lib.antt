@@ -1,3 +1,4 @@
+-- Rules: FirstForm, Form, Laws, Lines, Lowering, Reserved, Tokens. On the way to proofs: Continuations, Reads, Steps.
 pub mod Continuations
 pub mod FirstForm
 pub mod Form

@@ -1,3 +1,5 @@
+-- Rules: Flow, Exits, Laws. On the way to proofs: Lists, Bits, Work, Steps, Writes, Tables, Chosen, Definitions,
+-- Routes, Exact.
 pub mod Lists
 pub mod Bits
 pub mod Work

@@ -1,2 +1,2 @@
--- on the way: small texts with their tokens, for trees that are built by hand
+-- On the way to proofs: Samples.
 pub mod Samples

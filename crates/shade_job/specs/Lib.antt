@@ -1,3 +1,4 @@
+-- Rules: Buffers, Faults, JobOf, Json, Laws, OneAnswer, Pointers, Policies, Refusals, Rules, Schedules, Steps.
 pub mod Buffers
 pub mod Faults
 pub mod JobOf

@@ -1,3 +1,4 @@
+-- Rules: Conversions, Keeps, Laws, Lookups, Operates. On the way to proofs: Answers.
 pub mod Answers
 pub mod Conversions
 pub mod Keeps

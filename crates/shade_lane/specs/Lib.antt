@@ -1,3 +1,4 @@
+-- Rules: Lane, Members, Seen.
 pub mod Lane
 pub mod Members
 pub mod Seen

@@ -1,3 +1,4 @@
+-- Rules: Characters, Lexemes, Comments, Pieces, Tokens, Templates. On the way to proofs: Counts, Scan.
 pub mod Characters
 pub mod Lexemes
 pub mod Counts

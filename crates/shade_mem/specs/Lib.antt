@@ -1,2 +1,3 @@
+-- Rules: Fitting, Inputs.
 pub mod Fitting
 pub mod Inputs

@@ -1,4 +1,4 @@
--- Orders is the law; Everywhere and Seen are on the way to its proof.
+-- Rules: Orders, Seen. On the way to proofs: Everywhere.
 pub mod Orders
 pub mod Everywhere
 pub mod Seen

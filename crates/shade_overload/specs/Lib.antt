@@ -1,3 +1,4 @@
+-- Rules: Best, Conversions, Laws, Rows. On the way to proofs: Patterns.
 pub mod Best
 pub mod Conversions
 pub mod Laws

@@ -1,3 +1,4 @@
+-- Rules: Nesting, Answers, Once. On the way to proofs: Rests, Cuts, Parts, Wholes.
 pub mod Rests
 pub mod Nesting
 pub mod Answers

@@ -1,3 +1,4 @@
+-- Rules: Answers, Once. On the way to proofs: Rests, Reading, Parts, Cuts.
 pub mod Rests
 pub mod Reading
 pub mod Parts

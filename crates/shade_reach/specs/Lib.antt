@@ -1,3 +1,4 @@
+-- Rules: Paths, Digraph. On the way to proofs: Rows, Search.
 pub mod Paths
 pub mod Digraph
 pub mod Rows

@@ -1,3 +1,4 @@
+-- Rules: Sources, Labels, CheckReport, RunReport, Frames, Refusals.
 pub mod Sources
 pub mod Labels
 pub mod CheckReport

@@ -1,5 +1,4 @@
--- System, Machine and Races are the rules of lanes that share memory and the law of them; Orders, Goods, Records and Frames are words beside it;
--- Words and Scripts are the memory and the lanes that the laws of this crate speak of.
+-- Rules: System, Machine, Races, Words, Orders, Records, Frames. On the way to proofs: Goods, Scripts.
 pub mod System
 pub mod Machine
 pub mod Races

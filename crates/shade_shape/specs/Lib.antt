@@ -1,3 +1,4 @@
+-- Rules: Laws. On the way to proofs: Bounds, Depths, Facts, Tables, Values, Within.
 pub mod Bounds
 pub mod Depths
 pub mod Facts

@@ -1,3 +1,4 @@
+-- Rules: Answer, Causes, Changes, Laws, Ready, Request, Serves, Text. On the way to proofs: Report.
 pub mod Answer
 pub mod Causes
 pub mod Changes

@@ -1,3 +1,4 @@
+-- Rules: Answers, Contexts, Places, Rules, Simple.
 pub mod Answers
 pub mod Contexts
 pub mod Places

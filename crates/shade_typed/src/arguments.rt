@@ -1,4 +1,4 @@
-// Arguments of calls.
+//! Arguments of calls.
 
 ghost use Rattle.std.specs.Prelude.{◌≡◌, ◌↔◌, IsTrue};
 ghost use Rattle.shade_core.specs.declared.statement.Argument.TheVariants as argument;

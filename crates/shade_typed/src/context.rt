@@ -1,4 +1,4 @@
-// What is known where a statement is asked.
+//! What is known where a statement is asked.
 
 ghost use Rattle.std.specs.Prelude.{◌≡◌, ◌∷◌, ◌++◌, [], All, IfSome, IsTrue, OnErr, OnOk, Some, option_copied, slice_get};
 ghost use Rattle.shade_core.specs.Types.{type_at};

@@ -1,4 +1,4 @@
-// The types of operands.
+//! The types of operands.
 
 ghost use Rattle.std.specs.Prelude.{◌≡◌, ◌↔◌, IfOk, IsTrue, Some, option_map};
 ghost use Rattle.shade_core.specs.Views.{input_type as input_type_of};

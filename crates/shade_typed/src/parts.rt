@@ -1,4 +1,4 @@
-// Members and elements.
+//! Members and elements.
 
 ghost use Rattle.std.specs.Prelude.{◌≡◌, Contains, option_map, slice_get};
 ghost use Rattle.shade_typed.specs.Answers.{Answers};

@@ -1,4 +1,4 @@
-// What views name.
+//! What views name.
 
 ghost use Rattle.std.specs.Prelude.{◌≡◌, ◌↔◌, Contains, IsTrue, Some};
 ghost use Rattle.shade_core.specs.Types.{type_at};

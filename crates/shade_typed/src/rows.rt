@@ -1,4 +1,4 @@
-// What the rows of operators and built-in functions give.
+//! What the rows of operators and built-in functions give.
 
 ghost use Rattle.std.specs.Prelude.{◌≡◌, All, IfSome, IsTrue};
 ghost use Rattle.shade_overload.specs.Rows.{IsKnown};

@@ -1,4 +1,4 @@
-// How operations take types.
+//! How operations take types.
 
 ghost use Rattle.std.specs.Prelude.{◌≡◌};
 ghost use Rattle.shade_typed.specs.Rules.{rule_of as rule_in, bitcast_rule as bitcast_rule_of, vector_rule as vector_rule_of};

@@ -1,4 +1,4 @@
-// The scalars, the vectors and the results of exchanges of a table.
+//! The scalars, the vectors and the results of exchanges of a table.
 
 ghost use Rattle.std.specs.Prelude.{◌≡◌, ◌<◌, ◌↔◌, IfNone, IfOk, IfSome, Contains, IsTrue, Some, length};
 ghost use Rattle.shade_core.specs.Types.{type_at};

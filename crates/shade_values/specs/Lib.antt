@@ -1,3 +1,4 @@
+-- Rules: Apply, Layouts, Numbers, Operations, Parts, Shape, Table, Takes, Typed. On the way to proofs: Kept, Sound.
 pub mod Apply
 pub mod Kept
 pub mod Layouts

@@ -1,3 +1,4 @@
+-- Rules: Clean, Laws, Violations. On the way to proofs: Found.
 pub mod Clean
 pub mod Laws
 pub mod Violations

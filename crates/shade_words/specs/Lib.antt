@@ -1,3 +1,4 @@
+-- Rules: Lays, Types, Written, Spans. On the way to proofs: Ways, Forms.
 pub mod Lays
 pub mod Ways
 pub mod Types
