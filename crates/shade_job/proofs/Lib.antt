@@ -1,5 +1,6 @@
 mod BufferLaws
 mod DecideLaws
+mod FittingLaws
 mod JobLaws
 mod Lines
 mod ListLaws

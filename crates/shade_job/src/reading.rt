@@ -1,7 +1,8 @@
 //! JSON jobs.
 
-ghost use Rattle.std.specs.Prelude.{MatchResult};
+ghost use Rattle.std.specs.Prelude.{IfOk, MatchResult};
 ghost use Rattle.serde_json.specs.View.{view};
+ghost use Rattle.shade_mem.specs.Fitting.{IsFitting};
 ghost use Rattle.shade_job.specs.JobOf.{IsFault, IsFaultOf, IsJob, IsStated};
 ghost use Rattle.shade_job.specs.OneAnswer.{OneAnswer};
 ghost use Rattle.shade_job.specs.Refusals.{Refuses};
@@ -31,7 +32,8 @@ pub struct Job {
 /// `Rule` comes exactly where a rule fails: it has the first one by number, and a JSON pointer to the first value that breaks it.
 /// `NoMemory` may come at any text.
 pub fn read_job(alloc: Global, bytes: &[u8], module: &CoreModule) -> Result<Job, JobRefusal>
-    ensures { MatchResult result (IsJob bytes.now «module».now) (Refuses (IsFault bytes.now «module».now)) }
+    ensures read { MatchResult result (IsJob bytes.now «module».now) (Refuses (IsFault bytes.now «module».now)) }
+    ensures fits { IfOk result (λ job. IsFitting «module».now job.inputs) }
 {
     let value = parse(alloc, bytes)?;
     if !value.is_object() {
