@@ -9,3 +9,4 @@ mod Groups
 mod Numbers
 mod Markings
 mod Converges
+mod WayLaws

@@ -1,6 +1,7 @@
 //! The headline: clean modules converge at their barriers.
 
 ghost use Rattle.shade_sound.specs.Laws.{NeverDiverges, TracesAgree};
+ghost use Rattle.shade_sound.specs.Ways.{StepsAreWays};
 
 /// Whichever lanes are stepped, the lanes of a clean module never diverge at a barrier. Its statements are numbered in structure
 /// order, and the machine runs its entry.
@@ -12,4 +13,10 @@ pub fn clean_never_diverges()
 /// ended, the other's list is a beginning of its.
 pub fn clean_traces_agree()
     ensures { TracesAgree }
+{}
+
+/// Each step of a lane goes by a way of control flow of its function, from the point before one statement to the next: the ways
+/// over which definitions of variables reach.
+pub fn lanes_go_by_flow()
+    ensures { StepsAreWays }
 {}

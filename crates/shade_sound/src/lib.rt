@@ -3,4 +3,4 @@
 
 mod law;
 
-pub use law::{clean_never_diverges, clean_traces_agree};
+pub use law::{clean_never_diverges, clean_traces_agree, lanes_go_by_flow};
