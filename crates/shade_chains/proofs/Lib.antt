@@ -1,4 +1,4 @@
-mod CallLaws
+pub mod CallLaws
 mod EventLaws
 mod KeepLaws
 mod OrderLaws

@@ -168,8 +168,9 @@ round_waits rows before now waiting next longer row i x lt is at waits push_is r
 
 -- ---- all are placed
 
-pub order_made : (rows : Rows) (order : List ℕ) (placed : List Bool) → IsPlacing rows order placed → ((k : ℕ) → k < length rows → (is_placed placed k ≡ true) ⊎ Contains [] k) → IsOrder rows order
-order_made rows order placed p all = record {
+pub order_made : (rows : Rows) (order : List ℕ) (placed : List Bool) → length order ≡ length rows → IsPlacing rows order placed → ((k : ℕ) → k < length rows → (is_placed placed k ≡ true) ⊎ Contains [] k) → IsOrder rows order
+order_made rows order placed once p all = record {
+  once = once;
   below = p.below;
   behind = p.behind;
   all = λ k lt. elim (all k lt) [
@@ -335,6 +336,14 @@ pub round_waits_at : (rows : Rows) (before now : List Bool) (waiting next longer
     → longer ≡ next ++ get_or waiting i d ∷ [] → IsRound rows before now (take i waiting) next → IsRound rows before now (take (i + 1) waiting) longer
 round_waits_at rows before now waiting next longer row i d lt at waits push_is r =
     round_waits rows before now waiting next longer row i (get_or waiting i d) lt (get_or_default waiting i d (get_or waiting i d) lt) at waits push_is r
+
+-- ---- how many are placed and how many wait
+
+pub one_longer : (longer xs : List ℕ) (x : ℕ) → longer ≡ xs ++ x ∷ [] → length longer ≡ length xs + 1
+one_longer longer xs x e = ap length e ∙ length-append xs (x ∷ [])
+
+pub count_begin : (n : ℕ) (order waiting : List ℕ) → order ≡ [] → length waiting ≡ n → length order + length waiting ≡ n
+count_begin n order waiting e long = omega (arith, ap length e, long)
 
 -- ---- the beginning
 

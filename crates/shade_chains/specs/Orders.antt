@@ -24,8 +24,9 @@ pub data RowsLead (rows : Rows) (k : ℕ) : ℕ → Type 0 where
 abbrev pub IsAcyclic : Rows → Type 0
 IsAcyclic rows = (k : ℕ) → ¬ RowsLead rows k k
 
--- each function, and behind those that it calls
+-- each function once, and behind those that it calls
 pub record IsOrder (rows : Rows) (order : List ℕ) : Type 0 where
+  pub once : length order ≡ length rows
   pub below : All (λ k. k < length rows) order
   pub behind : (i k g : ℕ) → slice_get order i ≡ Some k → RowCalls rows k g → g < length rows → (j : ℕ) × (j < i) × (slice_get order j ≡ Some g)
   pub all : (k : ℕ) → k < length rows → Contains order k

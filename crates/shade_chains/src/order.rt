@@ -1,6 +1,6 @@
 //! An order of functions in which each stands behind those that it calls.
 
-ghost use Rattle.std.specs.Prelude.{◌≡◌, ◌<◌, ◌^◌, ◌++◌, ◌∷◌, [], ℕ, All, IfOk, OnOk, false, Some, length, map, replicate, set, slice_get, true};
+ghost use Rattle.std.specs.Prelude.{◌≡◌, ◌<◌, ◌^◌, ◌+◌, ◌++◌, ◌∷◌, [], ℕ, All, IfOk, OnOk, false, Some, length, map, replicate, set, slice_get, true};
 ghost use Rattle.std.specs.Option.{MatchOption};
 ghost use Rattle.shade_chains.specs.Orders.{IsAcyclic, IsOrder, IsPlacing, IsRound, IsReady, event_placed, row_placed};
 
@@ -39,6 +39,7 @@ fn place(
     requires ready { IsReady (map (λ r. r.items) rows.now) placed.old.items number }
     ensures after { OnOk result (IsPlacing (map (λ r. r.items) rows.now) order.new.items placed.new.items) }
     ensures placed { OnOk result (placed.new.items ≡ set placed.old.items number true) }
+    ensures one { OnOk result (length order.new.items ≡ length order.old.items + 1) }
 {
     placed[number as usize] = true;
     order.push(number)?;
@@ -56,6 +57,7 @@ fn next_round(
     requires before { IsPlacing (map (λ r. r.items) rows.now) order.old.items placed.old.items }
     requires known { All (λ k. k < length rows.now) waiting.now }
     ensures after { OnOk result (IsPlacing (map (λ r. r.items) rows.now) order.new.items placed.new.items) }
+    ensures each { IfOk result (λ next. length order.new.items + length next.items ≡ length order.old.items + length waiting.now) }
     ensures round { IfOk result (λ next. IsRound (map (λ r. r.items) rows.now) placed.old.items placed.new.items waiting.now next.items) }
 {
     let mut next = Vec::new(alloc);
