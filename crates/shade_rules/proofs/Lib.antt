@@ -1,0 +1,2 @@
+mod FindingLaws
+mod FaultLaws
