@@ -1,6 +1,6 @@
 -- Answers, and what follows from them.
-use Rattle.std.proofs.Common.{◌≡◌, refl, sym, ap, subst, ◌∙◌, Option, Some, None}
-use Rattle.std.specs.Prelude.{◌↔◌, Bool, true, false, IsTrue, option_map}
+use Rattle.std.proofs.Common.{◌≡◌, refl, ap, subst, Option, Some, None}
+use Rattle.std.specs.Prelude.{◌↔◌, Bool, true, false, IsTrue}
 use Rattle.shade_typed.specs.Answers.{Answers}
 
 pub some_same : {A : Type 0} (x y : A) → Some x ≡ Some y → x ≡ y

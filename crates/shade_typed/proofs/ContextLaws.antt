@@ -1,6 +1,6 @@
 -- What is known where a statement is asked.
-use Rattle.std.proofs.Common.{◌≡◌, refl, sym, ap, subst, ◌∙◌, ℕ, ◌+◌, ◌<◌, ◌≤◌, Bool, true, false, List, [], ◌∷◌, ◌++◌, length, get_or, map, Option, Some, None, inl, inr, arith, length-append}
-use Rattle.std.specs.Prelude.{◌↔◌, All, Contains, IfSome, IsTrue, option_map, slice_get}
+use Rattle.std.proofs.Common.{◌≡◌, refl, sym, ap, subst, ◌∙◌, ℕ, ◌+◌, ◌<◌, ◌≤◌, true, false, List, [], ◌∷◌, ◌++◌, length, get_or, Option, Some, None, inl, inr, arith, length-append}
+use Rattle.std.specs.Prelude.{All, Contains, IsTrue, option_map, slice_get}
 use Rattle.std.proofs.lemmas.Bool.{cases_lt}
 use Rattle.std.proofs.lemmas.List.{get_or_append_left}
 use Rattle.std.proofs.lemmas.List.Elements.{All-get_or, Contains-push}
@@ -9,10 +9,8 @@ use Rattle.shade_values.specs.declared.types.ShadeType.{ShadeType}
 use Rattle.shade_values.specs.declared.types.TypeId.{TypeId}
 use Rattle.shade_values.specs.Table.{Table}
 use Rattle.shade_core.specs.Types.{type_at}
-use Rattle.shade_core.specs.Views.{ValueTypes}
-use Rattle.shade_typed.specs.declared.context.Typed.{Typed}
 use Rattle.shade_typed.specs.Answers.{Answers}
-use Rattle.shade_typed.specs.Contexts.{GivesValue, IdStands, IsThere, StandsAt, type_in, value_type, value_types}
+use Rattle.shade_typed.specs.Contexts.{GivesValue, IsThere, value_type, value_types}
 use Rattle.shade_typed.specs.Simple.{AreSimple, is_simple}
 use Rattle.shade_typed.proofs.AnswerLaws.{answers_none, answers_one, some_same, none_some}
 

@@ -1,8 +1,12 @@
 mod AnswerLaws
-mod ArgumentLaws
 mod ContextLaws
 mod OperandLaws
 mod PartLaws
 mod PlaceLaws
+mod ArgumentLaws
 mod RowLaws
 mod RuleLaws
+mod AtomicLaws
+mod SetLaws
+mod ActLaws
+mod ValueLaws

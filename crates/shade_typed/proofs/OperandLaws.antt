@@ -1,5 +1,5 @@
 -- The types of operands.
-use Rattle.std.proofs.Common.{◌≡◌, refl, sym, ap, subst, ◌∙◌, ℕ, ◌+◌, ◌<◌, ◌≤◌, List, [], ◌∷◌, ◌++◌, length, get_or, drop, Option, Some, None, arith, append_assoc, append-nil}
+use Rattle.std.proofs.Common.{◌≡◌, refl, sym, ap, subst, ◌∙◌, ℕ, ◌+◌, ◌<◌, ◌≤◌, List, [], ◌∷◌, ◌++◌, length, get_or, drop, Option, Some, None, append_assoc, append-nil}
 use Rattle.std.specs.Prelude.{◌↔◌, All, IsTrue, slice_get}
 use Rattle.std.proofs.lemmas.List.{drop_all}
 use Rattle.std.proofs.lemmas.List.Elements.{All-nil, All-cons}
@@ -18,14 +18,13 @@ use Rattle.shade_core.specs.declared.module.CoreParam.{CoreParam}
 use Rattle.shade_core.specs.declared.module.CoreParam.TheVariants as parameter
 use Rattle.shade_core.specs.declared.statement.Operand.{Operand}
 use Rattle.shade_core.specs.declared.statement.Operand.TheVariants.{Constant, Param, Temp}
-use Rattle.shade_core.specs.Types.{IsConstructible, IsHeld, NamesHeld, is_constructible, spelled, type_at}
-use Rattle.shade_core.specs.Views.{ValueTypes, SomeParamIs, input_type}
-use Rattle.shade_typed.specs.declared.context.Typed.{Typed}
+use Rattle.shade_core.specs.Types.{IsConstructible, IsHeld, NamesHeld, type_at}
+use Rattle.shade_core.specs.Views.{SomeParamIs, input_type}
 use Rattle.shade_typed.specs.Answers.{Answers}
-use Rattle.shade_typed.specs.Contexts.{ContextView, GivesValue, IsThere, type_in}
-use Rattle.shade_typed.specs.Places.{HasType, HasWanted, HaveTypes, IsHeldAt, IsParam}
+use Rattle.shade_typed.specs.Contexts.{ContextView, GivesValue, IsThere}
+use Rattle.shade_typed.specs.Places.{HasType, HaveTypes, IsHeldAt, IsParam}
 use Rattle.shade_typed.specs.Simple.{is_simple}
-use Rattle.shade_typed.proofs.AnswerLaws.{answers_as, answers_none, holds, nowhere, only, some_same, none_some}
+use Rattle.shade_typed.proofs.AnswerLaws.{answers_as, answers_none, holds, nowhere, only, some_same}
 use Rattle.shade_typed.proofs.ContextLaws.{there}
 
 -- ---- a type by its id

@@ -1,14 +1,12 @@
 -- Members and elements.
-use Rattle.std.proofs.Common.{◌≡◌, refl, sym, ap, subst, ◌∙◌, ℕ, ◌+◌, ◌<◌, ◌≤◌, List, length, get_or, Option, Some, None, inl, inr, arith}
-use Rattle.std.specs.Prelude.{◌↔◌, All, Contains, option_map, slice_get}
-use Rattle.std.proofs.lemmas.List.Elements.{All-get_or}
-use Rattle.std.proofs.lemmas.Option.{slice_get_within, get_or_from_slice_get}
+use Rattle.std.proofs.Common.{◌≡◌, refl, sym, ap, ◌∙◌, ℕ, ◌<◌, ◌≤◌, List, length, Option, Some, None, inl, inr, arith}
+use Rattle.std.specs.Prelude.{Contains, option_map, slice_get}
 use Rattle.shade_values.specs.declared.types.Scalar.{Scalar}
 use Rattle.shade_values.specs.declared.types.Scalar.TheVariants as scalar
 use Rattle.shade_values.specs.declared.types.ShadeType.{ShadeType}
 use Rattle.shade_values.specs.declared.types.ShadeType.TheVariants as type
 use Rattle.shade_values.specs.declared.types.TypeId.{TypeId}
-use Rattle.shade_values.specs.Sound.{IsSound, IsOver}
+use Rattle.shade_values.specs.Sound.{IsSound}
 use Rattle.shade_values.specs.Table.{Table, members_at}
 use Rattle.shade_core.specs.Types.{type_at}
 use Rattle.shade_typed.specs.Answers.{Answers}

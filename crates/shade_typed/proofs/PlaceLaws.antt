@@ -1,6 +1,6 @@
 -- What views name.
-use Rattle.std.proofs.Common.{◌≡◌, refl, sym, ap, subst, ◌∙◌, ℕ, ◌+◌, ◌<◌, ◌≤◌, List, [], ◌∷◌, length, get_or, drop, Bool, Option, Some, None, arith}
-use Rattle.std.specs.Prelude.{◌↔◌, IsTrue, option_map, slice_get}
+use Rattle.std.proofs.Common.{◌≡◌, refl, sym, ap, subst, ◌∙◌, ℕ, ◌+◌, ◌<◌, ◌≤◌, List, length, get_or, drop, Bool, Option, Some, None}
+use Rattle.std.specs.Prelude.{◌↔◌, IsTrue, slice_get}
 use Rattle.std.proofs.lemmas.List.{drop_all}
 use Rattle.shade_values.specs.declared.types.Access.{Access}
 use Rattle.shade_values.specs.declared.types.Access.TheVariants.{ReadWrite}
@@ -11,10 +11,8 @@ use Rattle.shade_values.specs.declared.types.ShadeType.TheVariants as type
 use Rattle.shade_values.specs.declared.types.TypeId.{TypeId}
 use Rattle.shade_values.specs.Table.{Table}
 use Rattle.shade_core.proofs.CodeLaws.{drop_here}
-use Rattle.shade_core.specs.declared.module.CoreParam.{CoreParam}
 use Rattle.shade_core.specs.declared.module.CoreParam.TheVariants as parameter
 use Rattle.shade_core.specs.declared.module.Root.{Root}
-use Rattle.shade_core.specs.declared.statement.Base.{Base}
 use Rattle.shade_core.specs.declared.statement.Base.TheVariants as base
 use Rattle.shade_core.specs.declared.statement.Operand.{Operand}
 use Rattle.shade_core.specs.declared.statement.View.{View}
@@ -22,10 +20,9 @@ use Rattle.shade_core.specs.declared.statement.ViewStep.{ViewStep}
 use Rattle.shade_core.specs.declared.statement.ViewStep.TheVariants as step
 use Rattle.shade_core.specs.Types.{NamesHeld, IsConstructible, type_at}
 use Rattle.shade_core.specs.Views.{IsIndex, LocalIs, Origin, PointeeIs, PointsTo, RootIs}
-use Rattle.shade_typed.specs.declared.places.Place.{Place}
 use Rattle.shade_typed.specs.Answers.{Answers}
 use Rattle.shade_typed.specs.Contexts.{ContextView}
-use Rattle.shade_typed.specs.Places.{Begins, HasPart, HasType, Lead, Names, NamesValue, Steps, origin_of}
+use Rattle.shade_typed.specs.Places.{Begins, HasPart, HasType, Lead, Names, NamesValue, Steps}
 use Rattle.shade_typed.proofs.AnswerLaws.{answers_as, answers_none, answers_one, holds, nowhere, only, some_same, none_some}
 
 abbrev origin : Space → Access → ShadeType → Origin

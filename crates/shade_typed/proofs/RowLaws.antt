@@ -1,6 +1,6 @@
 -- What the rows give that take some types, none of them AbstractInt.
-use Rattle.std.proofs.Common.{◌≡◌, ◌≢◌, refl, sym, ap, subst, ◌∙◌, ℕ, ◌≤◌, List, [], ◌∷◌, Option, Some, None, arith}
-use Rattle.std.specs.Prelude.{◌↔◌, All, Contains, IfNone, IfSome, option_map}
+use Rattle.std.proofs.Common.{◌≡◌, ◌≢◌, refl, sym, ap, subst, ◌∙◌, List, [], ◌∷◌, Some, None, arith}
+use Rattle.std.specs.Prelude.{All, Contains}
 use Rattle.std.proofs.lemmas.List.Elements.{All-head, All-tail, All-weaker}
 use Rattle.shade_values.specs.declared.types.Scalar.{Scalar}
 use Rattle.shade_values.specs.declared.types.Scalar.TheVariants as scalar
@@ -9,7 +9,7 @@ use Rattle.shade_values.specs.declared.types.ShadeType.TheVariants as type
 use Rattle.shade_values.specs.Sound.{IsOf, IsSound}
 use Rattle.shade_values.specs.Table.{Table}
 use Rattle.shade_overload.specs.Best.{IsBest, IsRefused}
-use Rattle.shade_overload.specs.Conversions.{ScalarBecomes, Becomes, BecomeAll, scalar_of, distance_of, AreNearer}
+use Rattle.shade_overload.specs.Conversions.{ScalarBecomes, Becomes, BecomeAll, AreNearer}
 use Rattle.shade_overload.specs.Rows.{IsKnown, IsRow}
 use Rattle.shade_overload.specs.declared.builtin.Builtin.{Builtin}
 use Rattle.shade_overload.specs.declared.overload.Overload.{Overload}

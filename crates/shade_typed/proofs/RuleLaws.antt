@@ -1,6 +1,6 @@
 -- An operation takes what its rule takes.
-use Rattle.std.proofs.Common.{◌≡◌, ◌≢◌, refl, sym, ap, subst, ◌∙◌, ℕ, zero, suc, ◌+◌, ◌<◌, ◌≤◌, Bool, true, false, List, [], ◌∷◌, Option, Some, None, inl, inr, arith}
-use Rattle.std.specs.Prelude.{◌↔◌, ◌⊎◌, ◌==◌, if◌then◌else◌, All, Contains, IsTrue}
+use Rattle.std.proofs.Common.{◌≡◌, ◌≢◌, refl, sym, ap, subst, ◌∙◌, ℕ, zero, suc, ◌≤◌, Bool, true, false, List, [], ◌∷◌, Option, Some, None, inl, inr, arith}
+use Rattle.std.specs.Prelude.{◌↔◌, ◌==◌, if◌then◌else◌, All, IsTrue}
 use Rattle.std.proofs.lemmas.Bool.Decides.{Decides-eqb}
 use Rattle.std.proofs.lemmas.List.Elements.{All-head}
 use Rattle.shade_values.specs.declared.types.Scalar.{Scalar}
@@ -11,7 +11,7 @@ use Rattle.shade_values.specs.declared.op.Op.{Op}
 use Rattle.shade_values.specs.declared.op.Op.TheVariants as op
 use Rattle.shade_values.specs.Sound.{IsOf, IsSound}
 use Rattle.shade_values.specs.Table.{Table}
-use Rattle.shade_values.specs.Takes.{Arithmetic, Choice, Reread, Row, Takes, VectorOf, formed, sized, tested, truth_of}
+use Rattle.shade_values.specs.Takes.{Arithmetic, Reread, Row, Takes, VectorOf, formed, sized, tested, truth_of}
 use Rattle.shade_overload.specs.Rows.{IsKnown, IsRow}
 use Rattle.shade_overload.specs.declared.builtin.Builtin.{Builtin}
 use Rattle.shade_overload.specs.declared.builtin.Builtin.TheVariants as builtin
@@ -20,10 +20,10 @@ use Rattle.shade_core.specs.Atomics.{is_atomic}
 use Rattle.shade_core.specs.Types.{IsConstructible, IsHeld}
 use Rattle.shade_typed.specs.declared.rule.Rule.{Rule}
 use Rattle.shade_typed.specs.declared.rule.Rule.TheVariants as rule
-use Rattle.shade_typed.specs.Rules.{RowTakes, RuleTakes, bitcast_rule, rule_of, vector_rule}
+use Rattle.shade_typed.specs.Rules.{RuleTakes, bitcast_rule, rule_of, vector_rule}
 use Rattle.shade_typed.specs.Simple.{is_simple}
 use Rattle.shade_typed.proofs.AnswerLaws.{some_same}
-use Rattle.shade_typed.proofs.RowLaws.{held_known, held_of, all_known, all_of}
+use Rattle.shade_typed.proofs.RowLaws.{held_known, all_known, all_of}
 
 true_false : true ≡ false → ⊥
 true_false e = cc

@@ -62,3 +62,11 @@ IsThere t wanted ty = (ty ≡ wanted) × Contains t.types ty
 -- a statement gave a value of a type
 abbrev pub GivesValue : ValueTypes → ℕ → ShadeType → Type 0
 GivesValue values n ty = slice_get values n ≡ Some (Some ty)
+
+-- ---- statements that fit: what they give, if they give a value
+
+abbrev pub fit_in : Option (Option Typed) → Option (Option ShadeType)
+fit_in fit = option_map type_in fit
+
+abbrev pub FitStands : Table → Option (Option Typed) → Type 0
+FitStands t fit = IfSome fit (StandsAt t)

@@ -1,5 +1,5 @@
 -- What is asked of the operands and the views of a statement, by what is known there.
-use Rattle.std.specs.Prelude.{◌≡◌, ℕ, List, Option, None, Some, option_map, slice_get, Contains, IfSome}
+use Rattle.std.specs.Prelude.{◌≡◌, ℕ, List, Option, Some, option_map, Contains, IfSome}
 use Rattle.shade_values.specs.declared.types.ShadeType.{ShadeType}
 use Rattle.shade_values.specs.declared.types.TypeId.{TypeId}
 use Rattle.shade_values.specs.Table.{Table}
@@ -11,10 +11,10 @@ use Rattle.shade_core.specs.declared.statement.Base.{Base}
 use Rattle.shade_core.specs.declared.statement.ViewStep.{ViewStep}
 use Rattle.shade_core.specs.declared.statement.Argument.{Argument}
 use Rattle.shade_core.specs.Fits.{ArgumentFits, ArgumentsFit, Loads}
-use Rattle.shade_core.specs.Types.{IsConstructible, IsHeld, type_at}
+use Rattle.shade_core.specs.Types.{IsHeld, type_at}
 use Rattle.shade_core.specs.Views.{BeginsAt, OperandIs, OperandsAre, Origin, PartOf, ParamIs, StepIs, StepsLead, ViewIs}
 use Rattle.shade_typed.specs.declared.places.Place.{Place}
-use Rattle.shade_typed.specs.Contexts.{ContextView, StandsAt}
+use Rattle.shade_typed.specs.Contexts.{ContextView}
 
 -- ---- by what is known
 

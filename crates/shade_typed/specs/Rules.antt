@@ -4,11 +4,10 @@ use Rattle.shade_values.specs.declared.types.Scalar.{Scalar}
 use Rattle.shade_values.specs.declared.types.Scalar.TheVariants as scalar
 use Rattle.shade_values.specs.declared.types.ShadeType.{ShadeType}
 use Rattle.shade_values.specs.declared.types.ShadeType.TheVariants as type
-use Rattle.shade_values.specs.declared.types.TypeId.{TypeId}
 use Rattle.shade_values.specs.declared.op.Op.{Op}
 use Rattle.shade_values.specs.declared.op.Op.TheVariants as op
 use Rattle.shade_values.specs.Table.{Table}
-use Rattle.shade_values.specs.Takes.{Indexed, Made, MemberOf, Swizzled, Takes}
+use Rattle.shade_values.specs.Takes.{Indexed, Made, MemberOf, Swizzled}
 use Rattle.shade_overload.specs.declared.builtin.Builtin.{Builtin}
 use Rattle.shade_overload.specs.declared.builtin.Builtin.TheVariants as builtin
 use Rattle.shade_overload.specs.declared.overload.Overload.{Overload}
