@@ -1,0 +1,6 @@
+mod BodyLaws
+mod CallLaws
+mod RunLaws
+mod ShapeLaws
+mod SizeLaws
+mod Tells

@@ -1,0 +1,4 @@
+-- Rules: Laws. On the way to proofs: Bodies, Outline.
+pub mod Bodies
+pub mod Laws
+pub mod Outline

@@ -1,0 +1,18 @@
+//! What the shape of a module gives the layers behind it, as functions that do nothing.
+
+ghost use Rattle.shade_whole.specs.Laws.{EntriesRun, StatementsAreNumbered};
+
+use shade_shape::entries_start;
+
+/// The statements of each function of a module of the shape are numbered in structure order, as the laws of lanes ask.
+pub fn statements_are_numbered()
+    ensures { StatementsAreNumbered }
+{}
+
+/// Each entry of a module of the shape that has rules is one that a lane and a workgroup can be begun for: it has 1 to 256 lanes
+/// and ends in a return.
+pub fn entries_run()
+    ensures { EntriesRun }
+{
+    entries_start();
+}
