@@ -13,3 +13,8 @@ mod Runs
 mod ModuleLaws
 mod ModuleTrees
 mod OnceLaws
+mod Worded
+mod WordLaws
+mod KeptLaws
+mod FirstLaws
+mod TableLaws

@@ -7,6 +7,7 @@ use Rattle.shade_ast.specs.Declarations.{Module}
 use Rattle.shade_parse_expr.proofs.OnceLaws.{trichotomy, less_or, one_stop, not_past}
 use Rattle.shade_parse.specs.Answers.{PassesDepth, IsUnexpected, IsTooDeep}
 use Rattle.shade_parse.specs.Once.{IsParsedOnce}
+use Rattle.shade_parse.proofs.FirstLaws.{words_once}
 
 -- what passes a depth is a token
 is_token : (tokens : List Lexeme) (at : ℕ) → PassesDepth tokens at → at < length tokens
@@ -24,6 +25,7 @@ deep_before tokens at other u d = by (less_or other at)
 pub parsed_once : (tokens : List Lexeme) → IsParsedOnce tokens
 parsed_once tokens = record {
   one_tree = λ tree other x y. y.only.same (tree_shape tree) x.only.spells;
+  one_list = λ tree other x y. words_once tokens tree.names other.names x.words y.words;
   one_unexpected = λ at other x y. one_stop Module tokens 0 at other x.stop y.stop;
   one_too_deep = λ at other x y. trichotomy at other (λ lt. y.first.first at lt x.first.passes) (λ lt. x.first.first other lt y.first.passes);
   tree_or_unexpected = λ tree at x y. y.none (tree_shape tree) x.only.spells;

@@ -58,7 +58,7 @@ pub uncut_whole : (tokens : List Lexeme) (answer : Result Tree Fault) (r : Resul
 uncut_whole tokens answer r never is x = subst (λ v. MatchResult v (IsTree tokens) (IsRefused tokens)) (sym is) (by answer x)
   where
     by : (a : Result Tree Fault) → MatchResult a (IsWhole tokens) (Refused tokens) → MatchResult (uncut_of a) (IsTree tokens) (IsRefused tokens)
-    by (Ok tree) x = record { only = x.only; shallow = never; known = x.known; few_names = x.few_names; nodes = x.nodes; numbered = x.numbered; few_nodes = x.few_nodes }
+    by (Ok tree) x = record { only = x.only; shallow = never; words = x.words; known = x.known; nodes = x.nodes; numbered = x.numbered; few_nodes = x.few_nodes }
     by (Err (fault.Unexpected at)) x = record { stop = x.0; none = x.1; shallow = λ k lt. never k }
     by (Err fault.NoMemory) x = tt
 
@@ -139,10 +139,3 @@ module _ (text : List ℕ) (pairs : List (ℕ × ℕ)) (tokens : List Token) (pi
 
   pub pieces_few : IsUtf8 text → AreTokens text tokens → length text ≤ 1048576 → length shown ≤ 1048576
   pieces_few u a small = omega (arith, tokens_few text tokens u a, ap length same, length-map pieces lexeme, ap length are, length-map tokens (lexeme_of text pairs))
-
--- the tree of all pieces
-pub wholes : (pieces : List Piece) (r : Result Tree Fault) → MatchResult r (λ t. IsOnly Module (tree_shape t) (lexemes pieces)) (Refused (lexemes pieces)) →
-    IfOk r (λ t. tree_needs t ≤ length t.names) → IfOk r (λ t. CountFrom 0 (tree_nodes t) (length (tree_nodes t))) → IfOk r (λ t. length t.names ≤ length pieces) →
-    IfOk r (λ t. length (tree_nodes t) ≤ length pieces) → MatchResult r (IsWhole (lexemes pieces)) (Refused (lexemes pieces))
-wholes pieces (Ok t) only known numbered names nodes = record { only = only; known = known; few_names = omega (arith, names, length-map pieces lexeme); nodes = length (tree_nodes t); numbered = numbered; few_nodes = omega (arith, nodes, length-map pieces lexeme) }
-wholes pieces (Err f) refused known numbered names nodes = refused

@@ -15,18 +15,20 @@ use Rattle.shade_cursor.specs.Passes.{IsFirst}
 use Rattle.shade_cursor.specs.Depths.{IsDeep}
 use Rattle.shade_cursor.specs.TokenPlaces.{IsPlaceOf}
 use Rattle.shade_parse.specs.Nesting.{IsNested}
+use Rattle.shade_parse.specs.Words.{AreWords}
 
 -- a token passes a depth: that of expressions, the chain, the braces or the arms
 abbrev pub PassesDepth : List Lexeme → ℕ → Type 0
 PassesDepth tokens at = IsDeep tokens 0 at ⊎ IsNested tokens at
 
 -- The tokens spell a tree, and every tree that they spell is this one but for numbers of nodes and names; no token passes a
--- depth. Its names are known, at most one for each token, and its nodes are numbered in postorder from 0, at most one for each token.
+-- depth. Its names are the words of the tokens, each once, in the order in which they first appear, and the tree knows them. Its nodes are
+-- numbered in postorder from 0, at most one for each token.
 pub record IsTree (tokens : List Lexeme) (tree : Tree) : Type 0 where
   pub only : IsOnly Module (tree_shape tree) tokens
   pub shallow : (k : ℕ) → PassesDepth tokens k → ⊥
+  pub words : AreWords tokens tree.names
   pub known : tree_needs tree ≤ length tree.names
-  pub few_names : length tree.names ≤ length tokens
   pub nodes : ℕ
   pub numbered : CountFrom 0 (tree_nodes tree) nodes
   pub few_nodes : nodes ≤ length tokens

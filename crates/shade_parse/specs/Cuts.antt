@@ -12,12 +12,13 @@ use Rattle.shade_cursor.specs.declared.part.Fault.TheVariants as fault
 use Rattle.shade_cursor.specs.declared.fault.Refusal.{Refusal}
 use Rattle.shade_cursor.specs.declared.fault.Refusal.TheVariants as refusal
 use Rattle.shade_parse.specs.Answers.{IsUnexpected, IsTooDeep}
+use Rattle.shade_parse.specs.Words.{AreWords}
 
 -- a tree of all tokens
 pub record IsWhole (tokens : List Lexeme) (tree : Tree) : Type 0 where
   pub only : IsOnly Module (tree_shape tree) tokens
+  pub words : AreWords tokens tree.names
   pub known : tree_needs tree ≤ length tree.names
-  pub few_names : length tree.names ≤ length tokens
   pub nodes : ℕ
   pub numbered : CountFrom 0 (tree_nodes tree) nodes
   pub few_nodes : nodes ≤ length tokens

@@ -8,5 +8,6 @@ mod members;
 mod modules;
 mod nesting;
 mod whole;
+mod words;
 
 pub use whole::parse;

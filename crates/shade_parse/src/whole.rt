@@ -3,12 +3,14 @@
 ghost use Rattle.std.specs.Prelude.{◌≡◌, ℕ, ◌<◌, ◌≤◌, length, IfOk, IfSome, MatchOption, MatchResult};
 ghost use Rattle.shade_ast.specs.Lexemes.{lexemes as lexemes_of};
 ghost use Rattle.shade_parse.specs.Answers.{IsFault, IsTree, PassesDepth};
-ghost use Rattle.shade_parse.specs.Cuts.{cut_of, earlier_of, uncut_of, IsRefused};
+ghost use Rattle.shade_parse.specs.Cuts.{cut_of, earlier_of, uncut_of, IsRefused, IsWhole};
+ghost use Rattle.shade_parse.specs.Wholes.{Refused};
 ghost use Rattle.shade_cursor.specs.Passes.{IsFirst};
 ghost use Rattle.shade_cursor.specs.Shown.{lexemes};
 
 use crate::modules;
 use crate::nesting::first_nested;
+use crate::words::{are_distinct, names_of};
 use shade_ast::{NameKey, Tree};
 use shade_cursor::depths::first_deep;
 use shade_cursor::fault::{Refusal, fault_of};
@@ -47,12 +49,37 @@ fn tree(alloc: Global, pieces: &[Piece], key: NameKey) -> Result<Tree, Refusal>
         return Err(Refusal::NoMemory);
     };
     match passing {
-        None => uncut(modules::whole(alloc, pieces, key)),
+        None => uncut(named(alloc, pieces, key)),
         Some(deep) => {
             let front = &pieces[..deep + 1];
-            Err(cut(modules::whole(alloc, front, key), deep))
+            Err(cut(named(alloc, front, key), deep))
         }
     }
+}
+
+/// The tree that all tokens spell, whatever their depths. Its names are those of the text: the parser is handed a table of them, and each
+/// word that it meets is in it.
+fn named(alloc: Global, pieces: &[Piece], key: NameKey) -> Result<Tree, Fault>
+    requires { length pieces.now ≤ 1048576 }
+    ensures { MatchResult result (IsWhole (lexemes pieces.now)) (Refused (lexemes pieces.now)) }
+{
+    let Ok(names) = names_of(alloc, pieces, key) else {
+        return Err(Fault::NoMemory);
+    };
+    let Ok(known) = names_of(alloc, pieces, key) else {
+        return Err(Fault::NoMemory);
+    };
+    let Tree {
+        directives,
+        decls,
+        names: all,
+    } = modules::whole(alloc, pieces, known)?;
+    are_distinct(&all);
+    Ok(Tree {
+        directives,
+        decls,
+        names,
+    })
 }
 
 /// The first token that passes a depth, if one does.

@@ -1,0 +1,5 @@
+use Rattle.shade_parse.proofs.TableLaws.{none_numbered, one_numbered, all_numbered}
+use Rattle.shade_parse.proofs.words.names_of.Goals as goal
+
+pub loop-piece-init : goal.loop-piece-init
+loop-piece-init c = none_numbered c.args.pieces.now _ c.new-names.ensures
