@@ -20,7 +20,7 @@ use Rattle.shade_core.specs.Atomics.{is_atomic}
 use Rattle.shade_core.specs.Types.{IsConstructible, IsHeld}
 use Rattle.shade_typed.specs.declared.rule.Rule.{Rule}
 use Rattle.shade_typed.specs.declared.rule.Rule.TheVariants as rule
-use Rattle.shade_typed.specs.Rules.{RuleTakes, bitcast_rule, rule_of, vector_rule}
+use Rattle.shade_typed.specs.Rules.{RuleTakes, bitcast_rule, function_of, operator_of, other_rule, row_or, rule_of, vector_rule}
 use Rattle.shade_typed.specs.Simple.{is_simple}
 use Rattle.shade_typed.proofs.AnswerLaws.{some_same}
 use Rattle.shade_typed.proofs.RowLaws.{held_known, all_known, all_of}
@@ -182,3 +182,14 @@ alike t op.AtomicOr args ty sound held gives = (λ h. absurd (true_false h.0), �
 alike t op.AtomicXor args ty sound held gives = (λ h. absurd (true_false h.0), λ w. absurd w)
 alike t op.AtomicExchange args ty sound held gives = (λ h. absurd (true_false h.0), λ w. absurd w)
 alike t op.AtomicCompareExchangeWeak args ty sound held gives = (λ h. absurd (true_false h.0), λ w. absurd w)
+
+-- ---- which rule an operation has
+
+pub of_operator : (o : Op) (b : Builtin) → operator_of o ≡ Some b → rule.Row b ≡ rule_of o
+of_operator o b e = sym (ap (λ x. row_or x (row_or (function_of o) (other_rule o))) e)
+
+pub of_function : (o : Op) (b : Builtin) → operator_of o ≡ None → function_of o ≡ Some b → rule.Row b ≡ rule_of o
+of_function o b none e = sym (ap (λ x. row_or x (row_or (function_of o) (other_rule o))) none ∙ ap (λ x. row_or x (other_rule o)) e)
+
+pub of_other : (o : Op) → operator_of o ≡ None → function_of o ≡ None → other_rule o ≡ rule_of o
+of_other o none no_function = sym (ap (λ x. row_or x (row_or (function_of o) (other_rule o))) none ∙ ap (λ x. row_or x (other_rule o)) no_function)

@@ -26,55 +26,75 @@ vector_rule n s =
 abbrev pub bitcast_rule : ℕ → Scalar → Rule
 bitcast_rule n s = if n == 1 then rule.Row (builtin.Bitcast (Some (type.Plain s))) else rule.Row (builtin.Bitcast (Some (type.Vector n s)))
 
+-- the operator that an operation is
+abbrev pub operator_of : Op → Option Builtin
+operator_of op.Add = Some builtin.Add
+operator_of op.Subtract = Some builtin.Subtract
+operator_of op.Multiply = Some builtin.Multiply
+operator_of op.Divide = Some builtin.Divide
+operator_of op.Remainder = Some builtin.Remainder
+operator_of op.Negate = Some builtin.Negate
+operator_of op.Complement = Some builtin.Complement
+operator_of op.And = Some builtin.And
+operator_of op.Or = Some builtin.Or
+operator_of op.Xor = Some builtin.Xor
+operator_of op.ShiftLeft = Some builtin.ShiftLeft
+operator_of op.ShiftRight = Some builtin.ShiftRight
+operator_of op.Equal = Some builtin.Equal
+operator_of op.NotEqual = Some builtin.NotEqual
+operator_of op.Less = Some builtin.Less
+operator_of op.LessEqual = Some builtin.LessEqual
+operator_of op.Greater = Some builtin.Greater
+operator_of op.GreaterEqual = Some builtin.GreaterEqual
+operator_of op.Not = Some builtin.Not
+operator_of op.LogicalAnd = Some builtin.LogicalAnd
+operator_of op.LogicalOr = Some builtin.LogicalOr
+operator_of _ = None
+
+-- the function of values that an operation is
+abbrev pub function_of : Op → Option Builtin
+function_of op.All = Some builtin.All
+function_of op.Any = Some builtin.Any
+function_of op.Select = Some builtin.Select
+function_of op.Abs = Some builtin.Abs
+function_of op.Sign = Some builtin.Sign
+function_of op.Min = Some builtin.Min
+function_of op.Max = Some builtin.Max
+function_of op.Clamp = Some builtin.Clamp
+function_of op.Dot = Some builtin.Dot
+function_of op.CountOneBits = Some builtin.CountOneBits
+function_of op.CountLeadingZeros = Some builtin.CountLeadingZeros
+function_of op.CountTrailingZeros = Some builtin.CountTrailingZeros
+function_of op.ReverseBits = Some builtin.ReverseBits
+function_of op.FirstLeadingBit = Some builtin.FirstLeadingBit
+function_of op.FirstTrailingBit = Some builtin.FirstTrailingBit
+function_of op.ExtractBits = Some builtin.ExtractBits
+function_of op.InsertBits = Some builtin.InsertBits
+function_of _ = None
+
+abbrev pub conversion_rule : Scalar → Rule
+conversion_rule scalar.I32 = rule.Row builtin.I32
+conversion_rule scalar.U32 = rule.Row builtin.U32
+conversion_rule scalar.Bool = rule.Row builtin.Bool
+conversion_rule scalar.Abstract = rule.Never
+
+abbrev pub other_rule : Op → Rule
+other_rule (op.Convert s) = conversion_rule s
+other_rule (op.Vector n s) = vector_rule n s
+other_rule (op.Make id) = rule.Make id
+other_rule (op.Bitcast n s) = bitcast_rule n s
+other_rule (op.Member k) = rule.Member k
+other_rule op.Index = rule.Index
+other_rule (op.Swizzle n letters) = rule.Swizzle n letters
+other_rule _ = rule.Never
+
+-- the rows, where there are some
+abbrev pub row_or : Option Builtin → Rule → Rule
+row_or (Some b) other = rule.Row b
+row_or None other = other
+
 abbrev pub rule_of : Op → Rule
-rule_of op.Add = rule.Row builtin.Add
-rule_of op.Subtract = rule.Row builtin.Subtract
-rule_of op.Multiply = rule.Row builtin.Multiply
-rule_of op.Divide = rule.Row builtin.Divide
-rule_of op.Remainder = rule.Row builtin.Remainder
-rule_of op.Negate = rule.Row builtin.Negate
-rule_of op.Complement = rule.Row builtin.Complement
-rule_of op.And = rule.Row builtin.And
-rule_of op.Or = rule.Row builtin.Or
-rule_of op.Xor = rule.Row builtin.Xor
-rule_of op.ShiftLeft = rule.Row builtin.ShiftLeft
-rule_of op.ShiftRight = rule.Row builtin.ShiftRight
-rule_of op.Equal = rule.Row builtin.Equal
-rule_of op.NotEqual = rule.Row builtin.NotEqual
-rule_of op.Less = rule.Row builtin.Less
-rule_of op.LessEqual = rule.Row builtin.LessEqual
-rule_of op.Greater = rule.Row builtin.Greater
-rule_of op.GreaterEqual = rule.Row builtin.GreaterEqual
-rule_of op.Not = rule.Row builtin.Not
-rule_of op.LogicalAnd = rule.Row builtin.LogicalAnd
-rule_of op.LogicalOr = rule.Row builtin.LogicalOr
-rule_of (op.Convert scalar.I32) = rule.Row builtin.I32
-rule_of (op.Convert scalar.U32) = rule.Row builtin.U32
-rule_of (op.Convert scalar.Bool) = rule.Row builtin.Bool
-rule_of (op.Vector n s) = vector_rule n s
-rule_of (op.Make id) = rule.Make id
-rule_of (op.Bitcast n s) = bitcast_rule n s
-rule_of op.All = rule.Row builtin.All
-rule_of op.Any = rule.Row builtin.Any
-rule_of op.Select = rule.Row builtin.Select
-rule_of op.Abs = rule.Row builtin.Abs
-rule_of op.Sign = rule.Row builtin.Sign
-rule_of op.Min = rule.Row builtin.Min
-rule_of op.Max = rule.Row builtin.Max
-rule_of op.Clamp = rule.Row builtin.Clamp
-rule_of op.Dot = rule.Row builtin.Dot
-rule_of op.CountOneBits = rule.Row builtin.CountOneBits
-rule_of op.CountLeadingZeros = rule.Row builtin.CountLeadingZeros
-rule_of op.CountTrailingZeros = rule.Row builtin.CountTrailingZeros
-rule_of op.ReverseBits = rule.Row builtin.ReverseBits
-rule_of op.FirstLeadingBit = rule.Row builtin.FirstLeadingBit
-rule_of op.FirstTrailingBit = rule.Row builtin.FirstTrailingBit
-rule_of op.ExtractBits = rule.Row builtin.ExtractBits
-rule_of op.InsertBits = rule.Row builtin.InsertBits
-rule_of (op.Member k) = rule.Member k
-rule_of op.Index = rule.Index
-rule_of (op.Swizzle n letters) = rule.Swizzle n letters
-rule_of _ = rule.Never
+rule_of o = row_or (operator_of o) (row_or (function_of o) (other_rule o))
 
 -- an atomic operation as the function that does it
 abbrev pub atomic_builtin : Op → Option Builtin

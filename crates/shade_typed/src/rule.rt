@@ -1,7 +1,7 @@
 //! How operations take types.
 
 ghost use Rattle.std.specs.Prelude.{◌≡◌};
-ghost use Rattle.shade_typed.specs.Rules.{rule_of as rule_in, bitcast_rule as bitcast_rule_of, vector_rule as vector_rule_of};
+ghost use Rattle.shade_typed.specs.Rules.{bitcast_rule as bitcast_rule_of, conversion_rule as conversion_rule_of, function_of, operator_of, other_rule as other_rule_of, rule_of as rule_in, vector_rule as vector_rule_of};
 
 use shade_overload::Builtin;
 use shade_values::{Op, Scalar, ShadeType, TypeId};
@@ -48,58 +48,100 @@ fn bitcast_rule(count: u8, scalar: Scalar) -> Rule
     Rule::Row(Builtin::Bitcast(Some(ShadeType::Vector(count, scalar))))
 }
 
-/// How an operation takes types. Takes no memory.
-pub fn rule_of(op: Op) -> Rule
-    ensures { result ≡ rule_in op }
+/// The operator that an operation is, if it is one.
+fn operator(op: Op) -> Option<Builtin>
+    ensures { result ≡ operator_of op }
+{
+    let builtin = match op {
+        Op::Add => Builtin::Add,
+        Op::Subtract => Builtin::Subtract,
+        Op::Multiply => Builtin::Multiply,
+        Op::Divide => Builtin::Divide,
+        Op::Remainder => Builtin::Remainder,
+        Op::Negate => Builtin::Negate,
+        Op::Complement => Builtin::Complement,
+        Op::And => Builtin::And,
+        Op::Or => Builtin::Or,
+        Op::Xor => Builtin::Xor,
+        Op::ShiftLeft => Builtin::ShiftLeft,
+        Op::ShiftRight => Builtin::ShiftRight,
+        Op::Equal => Builtin::Equal,
+        Op::NotEqual => Builtin::NotEqual,
+        Op::Less => Builtin::Less,
+        Op::LessEqual => Builtin::LessEqual,
+        Op::Greater => Builtin::Greater,
+        Op::GreaterEqual => Builtin::GreaterEqual,
+        Op::Not => Builtin::Not,
+        Op::LogicalAnd => Builtin::LogicalAnd,
+        Op::LogicalOr => Builtin::LogicalOr,
+        _ => return None,
+    };
+    Some(builtin)
+}
+
+/// The function of values that an operation is, if it is one.
+fn function(op: Op) -> Option<Builtin>
+    ensures { result ≡ function_of op }
+{
+    let builtin = match op {
+        Op::All => Builtin::All,
+        Op::Any => Builtin::Any,
+        Op::Select => Builtin::Select,
+        Op::Abs => Builtin::Abs,
+        Op::Sign => Builtin::Sign,
+        Op::Min => Builtin::Min,
+        Op::Max => Builtin::Max,
+        Op::Clamp => Builtin::Clamp,
+        Op::Dot => Builtin::Dot,
+        Op::CountOneBits => Builtin::CountOneBits,
+        Op::CountLeadingZeros => Builtin::CountLeadingZeros,
+        Op::CountTrailingZeros => Builtin::CountTrailingZeros,
+        Op::ReverseBits => Builtin::ReverseBits,
+        Op::FirstLeadingBit => Builtin::FirstLeadingBit,
+        Op::FirstTrailingBit => Builtin::FirstTrailingBit,
+        Op::ExtractBits => Builtin::ExtractBits,
+        Op::InsertBits => Builtin::InsertBits,
+        _ => return None,
+    };
+    Some(builtin)
+}
+
+fn conversion_rule(scalar: Scalar) -> Rule
+    ensures { result ≡ conversion_rule_of scalar }
+{
+    match scalar {
+        Scalar::I32 => Rule::Row(Builtin::I32),
+        Scalar::U32 => Rule::Row(Builtin::U32),
+        Scalar::Bool => Rule::Row(Builtin::Bool),
+        Scalar::Abstract => Rule::Never,
+    }
+}
+
+/// How an operation takes types that is no operator and no function.
+fn other_rule(op: Op) -> Rule
+    ensures { result ≡ other_rule_of op }
 {
     match op {
-        Op::Add => Rule::Row(Builtin::Add),
-        Op::Subtract => Rule::Row(Builtin::Subtract),
-        Op::Multiply => Rule::Row(Builtin::Multiply),
-        Op::Divide => Rule::Row(Builtin::Divide),
-        Op::Remainder => Rule::Row(Builtin::Remainder),
-        Op::Negate => Rule::Row(Builtin::Negate),
-        Op::Complement => Rule::Row(Builtin::Complement),
-        Op::And => Rule::Row(Builtin::And),
-        Op::Or => Rule::Row(Builtin::Or),
-        Op::Xor => Rule::Row(Builtin::Xor),
-        Op::ShiftLeft => Rule::Row(Builtin::ShiftLeft),
-        Op::ShiftRight => Rule::Row(Builtin::ShiftRight),
-        Op::Equal => Rule::Row(Builtin::Equal),
-        Op::NotEqual => Rule::Row(Builtin::NotEqual),
-        Op::Less => Rule::Row(Builtin::Less),
-        Op::LessEqual => Rule::Row(Builtin::LessEqual),
-        Op::Greater => Rule::Row(Builtin::Greater),
-        Op::GreaterEqual => Rule::Row(Builtin::GreaterEqual),
-        Op::Not => Rule::Row(Builtin::Not),
-        Op::LogicalAnd => Rule::Row(Builtin::LogicalAnd),
-        Op::LogicalOr => Rule::Row(Builtin::LogicalOr),
-        Op::Convert(Scalar::I32) => Rule::Row(Builtin::I32),
-        Op::Convert(Scalar::U32) => Rule::Row(Builtin::U32),
-        Op::Convert(Scalar::Bool) => Rule::Row(Builtin::Bool),
+        Op::Convert(scalar) => conversion_rule(scalar),
         Op::Vector(count, scalar) => vector_rule(count, scalar),
         Op::Make(id) => Rule::Make(id),
         Op::Bitcast(count, scalar) => bitcast_rule(count, scalar),
-        Op::All => Rule::Row(Builtin::All),
-        Op::Any => Rule::Row(Builtin::Any),
-        Op::Select => Rule::Row(Builtin::Select),
-        Op::Abs => Rule::Row(Builtin::Abs),
-        Op::Sign => Rule::Row(Builtin::Sign),
-        Op::Min => Rule::Row(Builtin::Min),
-        Op::Max => Rule::Row(Builtin::Max),
-        Op::Clamp => Rule::Row(Builtin::Clamp),
-        Op::Dot => Rule::Row(Builtin::Dot),
-        Op::CountOneBits => Rule::Row(Builtin::CountOneBits),
-        Op::CountLeadingZeros => Rule::Row(Builtin::CountLeadingZeros),
-        Op::CountTrailingZeros => Rule::Row(Builtin::CountTrailingZeros),
-        Op::ReverseBits => Rule::Row(Builtin::ReverseBits),
-        Op::FirstLeadingBit => Rule::Row(Builtin::FirstLeadingBit),
-        Op::FirstTrailingBit => Rule::Row(Builtin::FirstTrailingBit),
-        Op::ExtractBits => Rule::Row(Builtin::ExtractBits),
-        Op::InsertBits => Rule::Row(Builtin::InsertBits),
         Op::Member(place) => Rule::Member(place),
         Op::Index => Rule::Index,
         Op::Swizzle(count, letters) => Rule::Swizzle(count, letters),
         _ => Rule::Never,
     }
+}
+
+/// How an operation takes types. Takes no memory.
+pub fn rule_of(op: Op) -> Rule
+    ensures { result ≡ rule_in op }
+{
+    if let Some(builtin) = operator(op) {
+        return Rule::Row(builtin);
+    }
+    if let Some(builtin) = function(op) {
+        return Rule::Row(builtin);
+    }
+    other_rule(op)
 }
