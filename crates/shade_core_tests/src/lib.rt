@@ -11,6 +11,8 @@ mod overload;
 #[cfg(test)]
 mod reach;
 #[cfg(test)]
+mod rules;
+#[cfg(test)]
 mod shape;
 #[cfg(test)]
 mod values;
