@@ -55,7 +55,7 @@ both : {P Q R : Access → Type 0} → ((x : Access) → P x → Q x → R x) �
 both f [] h g = tt
 both f (x ∷ xs) h g = (f x h.0 g.0, both f xs h.1 g.1)
 
-rising : (sizes : List Size) (past : List Event) → IsStepped (accesses sizes past) → IsRising (accesses sizes past)
+pub rising : (sizes : List Size) (past : List Event) → IsStepped (accesses sizes past) → IsRising (accesses sizes past)
 rising sizes [] h = tt
 rising sizes (Noted step lane touch ∷ past) h =
     (both (λ y lt up. (lt, (λ same. subst (λ (r : ℕ). y.epoch ≤ epoch_in (space_at sizes r) (epochs_of past)) same up))) (accesses sizes past) h.0 (reached sizes past), rising sizes past h.1)
@@ -76,7 +76,7 @@ past_if : (b : Bool) (m : Mark) (past : List Mark) → (b ≡ true → AllMarks 
 past_if true m past f h = (f refl, h)
 past_if false m past f h = h
 
-marks_past : (r w : ℕ) (xs : List Access) → IsRising xs → IsPast (marks_at r w xs)
+pub marks_past : (r w : ℕ) (xs : List Access) → IsRising xs → IsPast (marks_at r w xs)
 marks_past r w [] h = tt
 marks_past r w (x ∷ xs) h =
     past_if (touches r w x.touch) (mark_of x) (marks_at r w xs)

@@ -1,6 +1,9 @@
 -- Roots as a book is seen.
-use Rattle.std.proofs.Common.{◌≡◌, ℕ, zero, suc, ◌+◌, ◌<◌, ◌≤◌, List, [], ◌∷◌, ◌++◌, map, drop, length, get_or, refl, ap, sym, ◌∙◌, subst, arith, add-one}
-use Rattle.std.specs.Prelude.{slice_set}
+use Rattle.std.proofs.Common.{◌≡◌, ℕ, zero, suc, ◌+◌, ◌<◌, ◌≤◌, List, [], ◌∷◌, ◌++◌, map, drop, length, get_or, refl, ap, sym, ◌∙◌, subst, arith, add-one, inl, inr}
+use Rattle.std.specs.Prelude.{slice_set, ◌⊎◌, Bool, true, false, min}
+use Rattle.std.proofs.Math.Dec.{leb}
+use Rattle.std.proofs.Math.Nat.{min-eq_left, min-eq_right}
+use Rattle.std.proofs.lemmas.Bool.{leb-true, leb-false}
 use Rattle.shade_race.specs.declared.access.LaneAccess.{LaneAccess}
 use Rattle.shade_race.specs.declared.access.Race.{Race}
 use Rattle.shade_values.specs.declared.touch.Touch.{Touch}
@@ -8,8 +11,8 @@ use Rattle.shade_values.specs.declared.types.Space.{Space}
 use Rattle.shade_race.specs.declared.epochs.Epochs.{Epochs}
 use Rattle.shade_race.specs.declared.root.Root.{Root}
 use Rattle.shade_race.specs.Word.{cells_of}
-use Rattle.shade_race.specs.History.{sizes_of, epoch_in, RootCells, row, roots_from, noted_root, changed, words_at, root_races}
-use Rattle.shade_race.specs.Seen.{seen_root}
+use Rattle.shade_race.specs.History.{sizes_of, epoch_in, RootCells, row, roots_from, Size, noted_root, changed, words_at, word_races, root_races}
+use Rattle.shade_race.specs.Roots.{seen_root, AreUnnamed}
 use Rattle.shade_race.proofs.ListLaws.{get_default}
 
 more : (w n : ℕ) → row [] 0 w n ++ cells_of [] ∷ [] ≡ row [] 0 w (suc n)
@@ -100,6 +103,8 @@ pub begin_end : (roots : List Root) (words : List ℕ) (spaces : List Space) (n 
 begin_end roots words spaces n h before =
     sym (nothing_after (map seen_root roots)) ∙ ap (λ xs. map seen_root roots ++ roots_from [] n xs) (sym (sizes_end words spaces n h)) ∙ before
 
+-- ---- the races of a book
+
 none_dropped : (roots : List Root) (n : ℕ) → length roots ≤ n → drop n roots ≡ []
 none_dropped [] zero h = refl
 none_dropped [] (suc n) h = refl
@@ -110,8 +115,81 @@ none_more : (races : List Race) → races ++ [] ≡ races
 none_more [] = refl
 none_more (x ∷ races) = ap (λ xs. x ∷ xs) (none_more races)
 
--- at the end of the roots all races are listed
-pub races_end : (roots now : List Root) (races : List Race) (n : ℕ) → now ≡ roots → length now ≤ n
+in_parts : (races more rest : List Race) → (races ++ more) ++ rest ≡ races ++ (more ++ rest)
+in_parts [] more rest = refl
+in_parts (x ∷ races) more rest = ap (λ xs. x ∷ xs) (in_parts races more rest)
+
+root_next : (roots : List Root) (n : ℕ) (d : Root) → n < length roots → drop n roots ≡ get_or roots n d ∷ drop (suc n) roots
+root_next [] n d h = absurd (omega arith)
+root_next (root ∷ roots) zero d h = refl
+root_next (root ∷ roots) (suc n) d h = root_next roots n d (omega arith)
+
+-- one more root
+pub races_more : (roots : List Root) (races now all : List Race) (n : ℕ) (root : Root) → n < length roots → root ≡ get_or roots n root → now ≡ races ++ word_races n 0 root.cells.items
+    → races ++ root_races n (map seen_root (drop n roots)) ≡ all → now ++ root_races (n + 1) (map seen_root (drop (n + 1) roots)) ≡ all
+races_more roots races now all n root h is made before =
+    let next : drop n roots ≡ root ∷ drop (suc n) roots = root_next roots n root h ∙ ap (λ (r : Root). r ∷ drop (suc n) roots) (sym is) in
+    ap (λ k. now ++ root_races k (map seen_root (drop k roots))) (add-one n)
+    ∙ ap (λ xs. xs ++ root_races (suc n) (map seen_root (drop (suc n) roots))) made
+    ∙ in_parts races (word_races n 0 root.cells.items) (root_races (suc n) (map seen_root (drop (suc n) roots)))
+    ∙ ap (λ xs. races ++ root_races n (map seen_root xs)) (sym next)
+    ∙ before
+
+nothing_in : (races : List Race) → length races ≤ 0 → races ≡ []
+nothing_in [] h = refl
+nothing_in (x ∷ races) h = absurd (omega (arith, h))
+
+either_by : (b : Bool) (len most n : ℕ) → leb len most ≡ b → min len most ≤ n → (len ≤ n) ⊎ (most ≤ n)
+either_by true len most n e h = inl (subst (λ (k : ℕ). k ≤ n) (min-eq_left (leb-true len most e)) h)
+either_by false len most n e h =
+    let less : most < len = leb-false len most e in
+    let least : most ≤ len = omega (arith, less) in
+    inr (subst (λ (k : ℕ). k ≤ n) (min-eq_right least) h)
+
+races_past : (roots : List Root) (races : List Race) (n : ℕ) → AreUnnamed roots → (length roots ≤ n) ⊎ (4294967296 ≤ n)
     → races ++ root_races n (map seen_root (drop n roots)) ≡ root_races 0 (map seen_root roots) → races ≡ root_races 0 (map seen_root roots)
-races_end roots now races n same h all =
-    sym (none_more races) ∙ ap (λ xs. races ++ root_races n (map seen_root xs)) (sym (none_dropped roots n (subst (λ (xs : List Root). length xs ≤ n) same h))) ∙ all
+races_past roots races n late (inl h) all = sym (none_more races) ∙ ap (λ xs. races ++ root_races n (map seen_root xs)) (sym (none_dropped roots n h)) ∙ all
+races_past roots races n late (inr h) all = sym (none_more races) ∙ ap (λ xs. races ++ xs) (sym (nothing_in (root_races n (map seen_root (drop n roots))) (late n h))) ∙ all
+
+-- at the end of the roots that are named all races are listed
+pub races_end : (roots : List Root) (races : List Race) (n : ℕ) → AreUnnamed roots → min (length roots) 4294967296 ≤ n
+    → races ++ root_races n (map seen_root (drop n roots)) ≡ root_races 0 (map seen_root roots) → races ≡ root_races 0 (map seen_root roots)
+races_end roots races n late h all = races_past roots races n late (either_by (leb (length roots) 4294967296) (length roots) 4294967296 n refl h) all
+
+-- ---- roots that no access names
+
+blank_words : (r w k v n : ℕ) → word_races r w (row [] k v n) ≡ []
+blank_words r w k v zero = refl
+blank_words r w k v (suc n) = blank_words r (suc w) k (suc v) n
+
+blank_roots : (r k : ℕ) (sizes : List Size) → root_races r (roots_from [] k sizes) ≡ []
+blank_roots r k [] = refl
+blank_roots r k (s ∷ sizes) = rw (blank_words r 0 k 0 s.words, blank_roots (suc r) (suc k) sizes) refl
+
+late_roots : (r n k : ℕ) (sizes : List Size) → root_races r (drop n (roots_from [] k sizes)) ≡ []
+late_roots r zero k sizes = blank_roots r k sizes
+late_roots r (suc n) k [] = refl
+late_roots r (suc n) k (s ∷ sizes) = late_roots r n (suc k) sizes
+
+seen_drop : (n : ℕ) (roots : List Root) → map seen_root (drop n roots) ≡ drop n (map seen_root roots)
+seen_drop zero roots = refl
+seen_drop (suc n) [] = refl
+seen_drop (suc n) (root ∷ roots) = seen_drop n roots
+
+-- none has a race before any access
+pub unnamed_begin : (roots : List Root) (sizes : List Size) → map seen_root roots ≡ roots_from [] 0 sizes → AreUnnamed roots
+unnamed_begin roots sizes e n h =
+    let none : root_races n (map seen_root (drop n roots)) ≡ [] = ap (root_races n) (seen_drop n roots ∙ ap (λ (xs : List RootCells). drop n xs) e) ∙ late_roots n n 0 sizes in
+    let few : length (root_races n (map seen_root (drop n roots))) ≡ 0 = ap (λ (xs : List Race). length xs) none in
+    omega (arith, few)
+
+drop_set : (roots : List Root) (n m : ℕ) (new : Root) → n < m → drop m (slice_set roots n new) ≡ drop m roots
+drop_set [] n m new h = refl
+drop_set (root ∷ roots) n zero new h = absurd (omega arith)
+drop_set (root ∷ roots) zero (suc m) new h = refl
+drop_set (root ∷ roots) (suc n) (suc m) new h = drop_set roots n m new (omega arith)
+
+-- nor after an access, which names another
+pub unnamed_set : (roots : List Root) (k : ℕ) (new : Root) → k < 4294967296 → AreUnnamed roots → AreUnnamed (slice_set roots k new)
+unnamed_set roots k new h late n above =
+    subst (λ xs. length (root_races n (map seen_root xs)) ≤ 0) (sym (drop_set roots k n new (omega (arith, h, above)))) (late n above)

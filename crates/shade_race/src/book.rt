@@ -1,8 +1,9 @@
 //! The book of races.
 
 ghost use Rattle.std.specs.Prelude.{◌≡◌, ℕ, ◌+◌, ◌<◌, ◌≤◌, ◌^◌, List, [], ◌∷◌, length, map, IfOk};
-ghost use Rattle.shade_race.specs.History.{AllAccesses, accesses, book_of, book_races, epoch_in as epoch_of, Event, noted_book, passed_book, races_of, row, Size, sizes_of, Stands, Noted, Passed, words_at};
-ghost use Rattle.shade_race.specs.Seen.{seen};
+ghost use Rattle.shade_race.specs.History.{AllAccesses, accesses, book_of, book_races, epoch_in as epoch_of, Event, noted_book, passed_book, races_of, Size, sizes_of, Stands, Noted, Passed, words_at};
+ghost use Rattle.shade_race.specs.Meaning.{AreRaces};
+ghost use Rattle.shade_race.specs.Roots.{AreUnnamed, unnamed_prop};
 
 use crate::access::{LaneAccess, Race};
 use crate::epochs::{Epochs, epoch_in, raised};
@@ -10,15 +11,22 @@ use crate::root::Root;
 use shade_values::{Space, Touch};
 use std::alloc::{AllocError, Global};
 
+/// How many roots an access can name.
+const NAMED_ROOTS: usize = 4_294_967_296;
+
 /// The races of a run, found as its accesses are noted in the order of their steps.
 #[derive(Drop)]
 pub struct RaceBook {
     pub(crate) roots: Vec<Root>,
     pub(crate) epochs: Epochs,
+    ghost unnamed: { AreUnnamed roots.items } by { unnamed_prop roots.items },
 }
 
 impl RaceBook {
-    /// The book of roots of so many words in these spaces, before any access.
+    ghost use Rattle.shade_race.specs.Seen.{seen};
+
+    /// The book of roots of so many words in these spaces, before any access. Takes 192 bytes a word, and no more later; an error comes
+    /// where that memory is wanting.
     pub fn begin(alloc: Global, words: &[u32], spaces: &[Space]) -> Result<RaceBook, AllocError>
         requires { length words.now ≡ length spaces.now }
         ensures model { IfOk result (λ book. seen book ≡ book_of (sizes_of words.now spaces.now) []) }
@@ -93,15 +101,17 @@ impl RaceBook {
         self.epochs = raised(space, self.epochs);
     }
 
-    /// The recorded race of each word that has one, by root and word.
+    /// The races, in the order of roots and words: of each word that any two accesses race at, and of no other, the pair with the least second
+    /// step, and of those the one with the least first. Goes over all words. An error comes where memory for the list is wanting.
     pub fn races(&self, alloc: Global) -> Result<Vec<Race>, AllocError>
-        requires roots { length (seen self.now).roots < 4294967296 }
         ensures model { IfOk result (λ races. races.items ≡ book_races (seen self.now)) }
         ensures tells { (sizes : List Size) (past : List Event) → Stands sizes past (seen self.now) → IfOk result (λ races. races.items ≡ races_of sizes past) }
+        ensures least { (sizes : List Size) (past : List Event) → Stands sizes past (seen self.now) → IfOk result (λ races. AreRaces sizes (accesses sizes past) races.items) }
     {
         let mut races = Vec::new(alloc);
-        for (number, root) in self.roots.as_slice().iter().enumerate() {
-            root.add_races(number as u32, &mut races)?;
+        let named = self.roots.len().min(NAMED_ROOTS);
+        for number in 0..named {
+            self.roots[number].add_races(number as u32, &mut races)?;
         }
         Ok(races)
     }

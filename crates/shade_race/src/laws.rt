@@ -1,7 +1,7 @@
 //! The laws of the book.
 
 ghost use Rattle.shade_race.specs.Word.{CellsFollow, PresentTells, SixSuffice};
-ghost use Rattle.shade_race.specs.Meaning.{RecordIsLeast, NoRecordNoRace};
+ghost use Rattle.shade_race.specs.Meaning.{RecordIsLeast, NoRecordNoRace, RacesAreLeast};
 ghost use Rattle.shade_race.specs.History.{NoteLeads, BarrierLeads, RacesTell};
 
 /// The cells of a word after one more access are those before with that access noted.
@@ -27,6 +27,12 @@ pub fn barrier_leads()
 /// The races of a book are those of its history.
 pub fn races_tell()
     ensures { RacesTell }
+{}
+
+/// The races of a book are those of its history: in order of root and word, of each word that any two accesses race at, and of no other, the pair
+/// with the least second step, and of those the one with the least first.
+pub fn races_are_least()
+    ensures { RacesAreLeast }
 {}
 
 /// The recorded race of a word is the pair that races with the least second step, and of those the one with the least first.

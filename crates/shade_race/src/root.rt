@@ -17,7 +17,7 @@ pub struct Root {
 
 impl Root {
     ghost use Rattle.shade_race.specs.History.{noted_root, word_races, row};
-    ghost use Rattle.shade_race.specs.Seen.{seen_root};
+    ghost use Rattle.shade_race.specs.Roots.{seen_root};
 
     /// A root of so many words, none of them touched.
     pub(crate) fn begin(alloc: Global, space: Space, words: u32) -> Result<Root, AllocError>

@@ -163,7 +163,6 @@ fn races(rt: HostRuntime) -> Result<(), Fail> {
         for (step, told) in steps.iter().enumerate() {
             tell(&rt, &mut book, step as u64, *told);
         }
-        assert!(rt; book.roots() < 4_294_967_296);
         let races = book.races(alloc)?;
         assert_eq!(rt; races.len(), rows.len(), "{number}");
         for (race, row) in races.as_slice().iter().zip(rows.iter()) {

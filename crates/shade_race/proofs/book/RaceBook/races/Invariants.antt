@@ -1,6 +1,6 @@
 use Rattle.std.proofs.Common.{◌≡◌, ◌++◌, map, drop}
 use Rattle.shade_race.specs.History.{root_races}
-use Rattle.shade_race.specs.Seen.{seen_root}
+use Rattle.shade_race.specs.Roots.{seen_root}
 use Rattle.shade_race.proofs.book.RaceBook.races.Given as goal
 
 abbrev pub invariant-loop-number : goal.invariant-loop-number
