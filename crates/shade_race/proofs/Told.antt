@@ -1,6 +1,6 @@
 -- The races of a book are those of all pairs of its history.
 use Rattle.std.proofs.Common.{◌≡◌, ℕ, zero, suc, ◌+◌, ◌<◌, ◌≤◌, Bool, true, false, not, ◌&&◌, List, [], ◌∷◌, ◌++◌, Option, Some, None, refl, ap, sym, ◌∙◌, subst, arith, inl, inr}
-use Rattle.std.specs.Prelude.{◌==◌, ◌⊎◌}
+use Rattle.std.specs.Prelude.{◌==◌}
 use Rattle.std.proofs.lemmas.Bool.{eqb-true, eq-eqb}
 use Rattle.shade_values.specs.declared.touch.TouchKind.{TouchKind}
 use Rattle.shade_values.specs.declared.touch.TouchKind.TheVariants.{Read, Write, Atomic}

@@ -1,13 +1,15 @@
 -- Lanes that may step act.
-use Rattle.std.proofs.Common.{◌≡◌, refl, sym, ◌∙◌, ap, subst, ℕ, zero, suc, ◌+◌, ◌<◌, Bool, true, false, ◌&&◌, List, [], ◌∷◌, length, Option, None, Some, arith}
+use Rattle.std.proofs.Common.{◌≡◌, refl, ◌∙◌, ap, ℕ, zero, suc, ◌+◌, ◌<◌, Bool, true, false, List, [], ◌∷◌, length, Option, None, Some, arith}
 use Rattle.std.specs.Prelude.{slice_get, slice_index, is_none, if◌then◌else◌}
 use Rattle.shade_values.specs.declared.types.Space.{Space}
 use Rattle.shade_lane.specs.declared.state.LaneState.{LaneState}
 use Rattle.shade_lane.specs.declared.state.LaneState.TheVariants.{Able, Waiting, Ended}
 use Rattle.shade_lane.specs.Members.{Member, moved, is_able}
+use Rattle.shade_group.specs.declared.event.RunEnd.{RunEnd}
 use Rattle.shade_group.specs.declared.event.RunEnd.TheVariants as run_end
-use Rattle.shade_group.specs.Group.{Machine, able_from, able_lanes, all_ended, all_wait, acts, counted, with_member, ended, waited, met, settled, least_unlike, step_by, step_of, step, end_by, run_end_of}
-use Rattle.shade_sched.specs.Chosen.{chosen_step, chosen, IsAble, AreAble}
+use Rattle.shade_group.specs.Group.{Machine, able_from, able_lanes, all_ended, all_wait, acts, counted, with_member, ended, waited, met, settled, least_unlike, step_by, step_of, run, step, end_by, run_end_of}
+use Rattle.shade_sched.specs.Choices.{step_to, before_steps, chosen}
+use Rattle.shade_sched.specs.Chosen.{while_running, lane_of, chosen_step}
 use Rattle.shade_sched.specs.Laws.{ChosenLanesAct}
 
 -- a lane with this number is there and may step
@@ -70,13 +72,32 @@ act_stutters m number running may =
     ∙ (ap (λ b. (step_by b number may.member m).stutters) does
     ∙ settled_stutters number (moved may.member).state (with_member number (moved may.member) (counted m)))
 
-pick_stutters : (m : Machine) (pick : ℕ) → IsAble m pick → (chosen_step m pick).stutters ≡ m.stutters
-pick_stutters m pick able =
-    let lane : IsLane (able_lanes m) pick 0 m.members = able_is m.members 0 pick able.within in
-    let is : slice_index (able_lanes m) pick ≡ 0 + lane.number = lane.is in
-    let number : slice_index (able_lanes m) pick ≡ lane.number = omega (arith, is) in
-    ap (λ n. (step m n).stutters) number ∙ act_stutters m lane.number able.running lane.may
+lane_within : (lanes : List ℕ) (pick lane : ℕ) → slice_get lanes pick ≡ Some lane → (pick < length lanes) × (slice_index lanes pick ≡ lane)
+lane_within [] pick lane is = let no_one : ⊥ = cc in absurd no_one
+lane_within (n ∷ lanes) zero lane is = (omega arith, cc)
+lane_within (n ∷ lanes) (suc pick) lane is = let h = lane_within lanes pick lane is in (omega (arith, h.0), h.1)
+
+-- where a choice means a lane, the run is not over and the lane is at its place
+means_both : (e : RunEnd) (o : Option ℕ) (lane : ℕ) → while_running e o ≡ Some lane → (e ≡ run_end.Running) × (o ≡ Some lane)
+means_both run_end.Running o lane is = (refl, is)
+means_both run_end.Ended o lane is = let no_one : ⊥ = cc in absurd no_one
+means_both (run_end.Diverged one other) o lane is = let no_one : ⊥ = cc in absurd no_one
+
+pick_stutters : (m : Machine) (pick lane : ℕ) → lane_of m pick ≡ Some lane → (step m lane).stutters ≡ m.stutters
+pick_stutters m pick lane is =
+    let both = means_both (run_end_of m) (slice_get (able_lanes m) pick) lane is in
+    let at = lane_within (able_lanes m) pick lane both.1 in
+    let there : IsLane (able_lanes m) pick 0 m.members = able_is m.members 0 pick at.0 in
+    let place : slice_index (able_lanes m) pick ≡ 0 + there.number = there.is in
+    let named : slice_index (able_lanes m) pick ≡ lane = at.1 in
+    let number : lane ≡ there.number = omega (arith, place, named) in
+    ap (λ n. (step m n).stutters) number ∙ act_stutters m there.number both.0 there.may
 
 pub lanes_act : ChosenLanesAct
-lanes_act m [] able = refl
-lanes_act m (pick ∷ picks) able = lanes_act (chosen_step m pick) picks able.1 ∙ pick_stutters m pick able.0
+lanes_act m [] = refl
+lanes_act m (pick ∷ picks) = by (lane_of m pick) refl (lanes_act (chosen_step m pick) picks)
+  where
+    by : (o : Option ℕ) → lane_of m pick ≡ o → (run (step_to lane_of step o m) (chosen lane_of step picks (step_to lane_of step o m))).stutters ≡ (step_to lane_of step o m).stutters
+        → (run m (before_steps lane_of step o (chosen lane_of step picks (step_to lane_of step o m)))).stutters ≡ m.stutters
+    by None is more = refl
+    by (Some lane) is more = more ∙ pick_stutters m pick lane is

@@ -1,30 +1,56 @@
 -- Runs by the places that a function gives.
-use Rattle.std.proofs.Common.{◌≡◌, refl, sym, ◌∙◌, ap, subst, ℕ, zero, suc, ◌+◌, ◌<◌, ◌≤◌, List, [], ◌∷◌, ◌++◌, length, arith, Bool, true, false, Some}
+use Rattle.std.proofs.Common.{◌≡◌, refl, sym, ◌∙◌, ap, subst, ℕ, zero, suc, ◌+◌, ◌<◌, ◌≤◌, List, [], ◌∷◌, ◌++◌, length, arith, Bool, true, false, Option, None, Some}
 use Rattle.std.specs.Prelude.{slice_get, slice_index, if◌then◌else◌, Result, Ok, Err, OnErr}
 use Rattle.shade_group.specs.declared.event.RunEnd.TheVariants as run_end
 use Rattle.shade_lane.specs.Members.{Member, is_able}
-use Rattle.shade_group.specs.Group.{Machine, able_from, able_lanes, run_end_of, step as step_of}
+use Rattle.shade_group.specs.Group.{Machine, able_from, able_lanes, run_end_of, run, step as step_of}
 use Rattle.shade_sched.specs.declared.chosen.ChosenEnd.{ChosenEnd}
-use Rattle.shade_sched.specs.Chosen.{chosen_step, chosen, IsAble, IsPicked, AreAble, AreGiven, end_of, IsChosenRun, IsCutRun}
+use Rattle.shade_sched.specs.Choices.{step_to, before_steps, chosen}
+use Rattle.shade_sched.specs.Chosen.{while_running, lane_of, chosen_run, chosen_step, IsAble, IsPicked, AreAble, AreGiven, end_of, IsChosenRun, IsCutRun}
+
+-- ---- choices that mean lanes
+
+-- the machine after choices, one after another
+abbrev after : Machine → List ℕ → Machine
+after m [] = m
+after m (pick ∷ picks) = after (chosen_step m pick) picks
+
+get_below : (lanes : List ℕ) (k : ℕ) → k < length lanes → slice_get lanes k ≡ Some (slice_index lanes k)
+get_below [] k h = absurd (omega (arith, h))
+get_below (n ∷ lanes) zero h = refl
+get_below (n ∷ lanes) (suc k) h = get_below lanes k (omega (arith, h))
+
+pub lane_means : (m : Machine) (pick : ℕ) → IsAble m pick → lane_of m pick ≡ Some (slice_index (able_lanes m) pick)
+lane_means m pick able = ap (λ e. while_running e (slice_get (able_lanes m) pick)) able.running ∙ get_below (able_lanes m) pick able.within
+
+-- where each choice means a lane, the run that they make is one after another
+run_is : (m : Machine) (picks : List ℕ) → AreAble m picks → chosen_run m picks ≡ after m picks
+run_is m [] h = refl
+run_is m (pick ∷ picks) h = by (lane_of m pick) (slice_index (able_lanes m) pick) (lane_means m pick h.0) (run_is (chosen_step m pick) picks h.1)
+  where
+    by : (o : Option ℕ) (lane : ℕ) → o ≡ Some lane → run (step_to lane_of step_of o m) (chosen lane_of step_of picks (step_to lane_of step_of o m)) ≡ after (step_to lane_of step_of o m) picks
+        → run m (before_steps lane_of step_of o (chosen lane_of step_of picks (step_to lane_of step_of o m))) ≡ after (step_to lane_of step_of o m) picks
+    by None lane is more = let no_one : ⊥ = cc in absurd no_one
+    by (Some n) lane is more = more
 
 -- ---- one more place
 
-able_more : (m : Machine) (picks : List ℕ) (last : ℕ) → AreAble m picks → IsAble (chosen m picks) last → AreAble m (picks ++ last ∷ [])
+able_more : (m : Machine) (picks : List ℕ) (last : ℕ) → AreAble m picks → IsAble (after m picks) last → AreAble m (picks ++ last ∷ [])
 able_more m [] last h able = (able, tt)
 able_more m (pick ∷ picks) last h able = (h.0, able_more (chosen_step m pick) picks last h.1 able)
 
 given_more : (gives : ℕ → ℕ → ℕ → Type 0) (k : ℕ) (m : Machine) (picks : List ℕ) (last : ℕ) → AreGiven gives k m picks
-    → gives (k + length picks) (length (able_lanes (chosen m picks))) last → AreGiven gives k m (picks ++ last ∷ [])
+    → gives (k + length picks) (length (able_lanes (after m picks))) last → AreGiven gives k m (picks ++ last ∷ [])
 given_more gives k m [] last h given =
     let here : k + 0 ≡ k = omega arith in
     (subst (λ n. gives n (length (able_lanes m)) last) here given, tt)
 given_more gives k m (pick ∷ picks) last h given =
     let there : k + length (pick ∷ picks) ≡ suc k + length picks = omega arith in
-    (h.0, given_more gives (suc k) (chosen_step m pick) picks last h.1 (subst (λ n. gives n (length (able_lanes (chosen (chosen_step m pick) picks))) last) there given))
+    (h.0, given_more gives (suc k) (chosen_step m pick) picks last h.1 (subst (λ n. gives n (length (able_lanes (after (chosen_step m pick) picks))) last) there given))
 
-chosen_more : (m : Machine) (picks : List ℕ) (last : ℕ) → chosen m (picks ++ last ∷ []) ≡ chosen_step (chosen m picks) last
-chosen_more m [] last = refl
-chosen_more m (pick ∷ picks) last = chosen_more (chosen_step m pick) picks last
+after_more : (m : Machine) (picks : List ℕ) (last : ℕ) → after m (picks ++ last ∷ []) ≡ chosen_step (after m picks) last
+after_more m [] last = refl
+after_more m (pick ∷ picks) last = after_more (chosen_step m pick) picks last
 
 length_more : (picks : List ℕ) (last : ℕ) → length (picks ++ last ∷ []) ≡ length picks + 1
 length_more [] last = refl
@@ -40,7 +66,7 @@ pub record Taken (gives : ℕ → ℕ → ℕ → Type 0) (old now : Machine) (s
   picks : List ℕ
   able : AreAble old picks
   given : AreGiven gives 0 old picks
-  made : now ≡ chosen old picks
+  made : now ≡ after old picks
   count : length picks ≡ step
 
 pub taken_none : (gives : ℕ → ℕ → ℕ → Type 0) (old : Machine) → Taken gives old old 0
@@ -51,8 +77,8 @@ taken_more gives old now next step taken picked = record {
   picks = taken.picks ++ picked.pick ∷ [];
   able = able_more old taken.picks picked.pick taken.able (subst (λ m. IsAble m picked.pick) taken.made picked.able);
   given = given_more gives 0 old taken.picks picked.pick taken.given
-      (subst (λ n. gives n (length (able_lanes (chosen old taken.picks))) picked.pick) (zero_more (length taken.picks)) (subst (λ m. gives (length taken.picks) (length (able_lanes m)) picked.pick) taken.made (subst (λ n. gives n (length (able_lanes now)) picked.pick) (sym taken.count) picked.given)));
-  made = picked.made ∙ (ap (λ m. chosen_step m picked.pick) taken.made ∙ sym (chosen_more old taken.picks picked.pick));
+      (subst (λ n. gives n (length (able_lanes (after old taken.picks))) picked.pick) (zero_more (length taken.picks)) (subst (λ m. gives (length taken.picks) (length (able_lanes m)) picked.pick) taken.made (subst (λ n. gives n (length (able_lanes now)) picked.pick) (sym taken.count) picked.given)));
+  made = picked.made ∙ (ap (λ m. chosen_step m picked.pick) taken.made ∙ sym (after_more old taken.picks picked.pick));
   count = length_more taken.picks picked.pick ∙ ap (λ n. n + 1) taken.count;
 }
 
@@ -64,7 +90,7 @@ taken_all gives limit old now step told taken few all is =
       picks = taken.picks;
       able = taken.able;
       given = taken.given;
-      made = taken.made;
+      made = taken.made ∙ sym (run_is old taken.picks taken.able);
       few = omega (arith, count, few);
       all = λ running. let spent : limit ≤ step = all running in omega (arith, count, few, spent);
       end = is;
@@ -73,18 +99,13 @@ taken_all gives limit old now step told taken few all is =
 pub taken_some : (gives : ℕ → ℕ → ℕ → Type 0) (limit : ℕ) (old now : Machine) (step : ℕ) → Taken gives old now step → step < limit → run_end_of now ≡ run_end.Running → IsCutRun gives limit old now
 taken_some gives limit old now step taken few running =
     let count : length taken.picks ≡ step = taken.count in
-    record { picks = taken.picks; able = taken.able; given = taken.given; made = taken.made; running = running; few = omega (arith, count, few) }
+    record { picks = taken.picks; able = taken.able; given = taken.given; made = taken.made ∙ sym (run_is old taken.picks taken.able); running = running; few = omega (arith, count, few) }
 
 pub on_err : {T E : Type 0} (r : Result T E) (P : Type 0) → P → OnErr r P
 on_err (Ok x) P h = tt
 on_err (Err e) P h = h
 
 -- ---- one step
-
-pub lane_is : (lanes : List ℕ) (k lane : ℕ) → slice_get lanes k ≡ Some lane → slice_index lanes k ≡ lane
-lane_is [] k lane is = let no_one : ⊥ = cc in absurd no_one
-lane_is (n ∷ lanes) zero lane is = cc
-lane_is (n ∷ lanes) (suc k) lane is = lane_is lanes k lane is
 
 below_by : (able : Bool) (i count lane : ℕ) (rest : List ℕ) → ((k : ℕ) → slice_get rest k ≡ Some lane → lane < i + 1 + count) → (k : ℕ) → slice_get (if able then i ∷ rest else rest) k ≡ Some lane → lane < i + suc count
 below_by true i count lane rest later zero e = let same : i ≡ lane = cc in omega (arith, same)
@@ -105,5 +126,5 @@ picked_is gives step old new count pick lane running is given below at made = re
   pick = pick;
   able = record { running = running; within = subst (λ n. pick < n) is below };
   given = subst (λ n. gives step n pick) is given;
-  made = made ∙ ap (λ n. step_of old n) (sym (lane_is (able_lanes old) pick lane at));
+  made = made ∙ sym (ap (λ o. step_to lane_of step_of o old) (ap (λ e. while_running e (slice_get (able_lanes old) pick)) running ∙ at));
 }

@@ -1,4 +1,5 @@
--- Rules: Choosers, Chosen, Laws.
+-- Rules: Choosers, Choices, Chosen, Laws.
 pub mod Choosers
+pub mod Choices
 pub mod Chosen
 pub mod Laws
