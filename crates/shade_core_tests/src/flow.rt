@@ -4,7 +4,7 @@ use shade_core::{
     Act, Argument, Base, CoreFunction, CoreParam, CoreStatement, Operand, SwitchPart, View,
     ViewStep,
 };
-use shade_flow::{Definition, reaching};
+use shade_flow::{Definition, is_counted, reaching};
 use shade_samples::{NOWHERE, branch, compare, statement};
 use shade_values::{Name, Op, Space, TypeId};
 use sqlite_items::Items;
@@ -266,6 +266,7 @@ fn tells(
     rows: &[Row],
 ) -> Result<(), Fail> {
     let function = function_of(alloc, body)?;
+    assert!(rt; is_counted(&function));
     let kept = reaching(alloc, &function)?;
     for (statement, variable, definitions) in rows {
         let found = kept.before(alloc, *statement, *variable)?;

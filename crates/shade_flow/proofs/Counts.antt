@@ -50,7 +50,7 @@ standing_numbers (loop n body continuing leave rest) = ap (λ (l : List ℕ). n 
 standing_numbers no_part = refl
 standing_numbers (part n which keys fallback body others) = two (statements body) _ _ _ (standing_numbers body) (standing_numbers others)
 
-both_true : (a b : Bool) → (a && b) ≡ true → (a ≡ true) × (b ≡ true)
+pub both_true : (a b : Bool) → (a && b) ≡ true → (a ≡ true) × (b ≡ true)
 both_true true true e = (refl, refl)
 both_true true false e = cc
 both_true false b e = cc

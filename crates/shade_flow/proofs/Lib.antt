@@ -11,6 +11,7 @@ pub mod ExactLaws
 pub mod WriteWalks
 pub mod Variables
 pub mod Counts
+pub mod CountedLaws
 pub mod Marks
 pub mod BitLaws
 pub mod DefinitionLaws

@@ -23,6 +23,10 @@ number (point.Turn n) = 2 * n + 2
 abbrev pub numbers : Point × Point → ℕ × ℕ
 numbers step = (number step.0, number step.1)
 
+-- both ends of an edge leave room for a count of 32 bits above them
+abbrev pub IsBelow : ℕ × ℕ → Type 0
+IsBelow edge = (edge.0 < 4294967295) × (edge.1 < 4294967295)
+
 -- both ends of an edge are below a count
 abbrev pub Joins : ℕ → ℕ × ℕ → Type 0
 Joins count edge = (edge.0 < count) × (edge.1 < count)

@@ -36,7 +36,7 @@ fn chunk_of(alloc: Global, routes: &Routes, definitions: &[Defined]) -> Result<C
     let starts = begun(alloc, routes.nodes, routes.first, definitions)?;
     let makes = made(alloc, routes.nodes, definitions)?;
     let mut passes = full(alloc, routes.nodes)?;
-    stop_all(&mut passes, &routes.writes, definitions)?;
+    stop_all(&mut passes, &routes.writes, definitions);
     let rows = reached(alloc, routes.nodes, &routes.graph, starts, &makes, &passes)?;
     Ok(Chunk {
         definitions: copied(alloc, definitions)?,
@@ -107,10 +107,10 @@ fn add_row(
 }
 
 /// The row of a point; none has a bit beyond the last row.
-fn row_at(rows: &[u64], point: u32) -> u64
+fn row_at(rows: &[u64], point: u64) -> u64
     ensures { result ≡ at rows.now point }
 {
-    if (point as usize) < rows.len() {
+    if point < rows.len() as u64 {
         rows[point as usize]
     } else {
         0
@@ -121,7 +121,7 @@ fn row_at(rows: &[u64], point: u32) -> u64
 pub fn definitions_before(
     alloc: Global,
     chunks: &[Chunk],
-    point: u32,
+    point: u64,
     variable: Base,
 ) -> Result<Vec<Definition>, AllocError>
     ensures { IfOk result (λ found. found.items ≡ before_of point variable chunks.now) }

@@ -1,6 +1,6 @@
 //! The definitions of a function's tracked variables.
 
-ghost use Rattle.std.specs.Prelude.{◌≡◌, ◌++◌, ◌∷◌, [], IfOk, if◌then◌else◌, slice_get};
+ghost use Rattle.std.specs.Prelude.{◌≡◌, ◌<◌, ◌^◌, ◌++◌, ◌∷◌, [], length, IfOk, if◌then◌else◌, slice_get};
 ghost use Rattle.shade_core.specs.declared.statement.Base.TheVariants.{Pointee};
 ghost use Rattle.shade_flow.specs.declared.definition.Definition.TheVariants.{Entry};
 ghost use Rattle.shade_flow.specs.Writes.{defined};
@@ -70,11 +70,9 @@ fn add_entry(param: CoreParam, number: u32, out: &mut Vec<Defined>) -> Result<()
 
 /// Adds the definitions at the entry.
 fn add_entries(params: &[CoreParam], out: &mut Vec<Defined>) -> Result<(), AllocError>
+    requires { length params.now < 2 ^ 32 }
     ensures { IfOk result (λ _. out.new.items ≡ out.old.items ++ entries_from 0 params.now) }
 {
-    if params.len() > u32::MAX as usize {
-        return Err(AllocError);
-    }
     let mut number = 0;
     for param in params {
         add_entry(*param, number, out)?;
@@ -121,6 +119,7 @@ pub fn function_definitions(
     function: &CoreFunction,
     writes: &[Write],
 ) -> Result<Vec<Defined>, AllocError>
+    requires { length function.now.params < 2 ^ 32 }
     ensures { IfOk result (λ definitions. definitions.items ≡ all_kept function.now writes.now) }
 {
     let mut definitions = Vec::new(alloc);

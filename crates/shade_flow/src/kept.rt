@@ -69,7 +69,7 @@ impl Reaching {
     ) -> Result<Definitions, AllocError>
         ensures { IfOk result (IsReadOf self.now statement variable) }
     {
-        let point = number_of(Point::At(statement))?;
+        let point = number_of(Point::At(statement));
         let found = definitions_before(alloc, &self.chunks, point, variable)?;
         Ok(Definitions::from_vec(found))
     }

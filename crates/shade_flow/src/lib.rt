@@ -4,6 +4,7 @@
 
 mod chunk;
 mod chunks;
+mod counted;
 mod definition;
 mod definitions;
 mod kept;
@@ -17,6 +18,7 @@ mod tables;
 mod work;
 mod writes;
 
+pub use counted::is_counted;
 pub use definition::Definition;
 use definition::{Defined, Write};
 pub use kept::{Definitions, Reaching};

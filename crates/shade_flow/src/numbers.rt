@@ -1,72 +1,71 @@
 //! Points by number.
 
-ghost use Rattle.std.specs.Prelude.{◌≡◌, ◌<◌, ◌≤◌, ◌*◌, ◌+◌, ℕ, All, IfOk, map};
-ghost use Rattle.shade_flow.specs.Tables.{number, numbers, Joins};
+ghost use Rattle.std.specs.Prelude.{◌≡◌, ◌<◌, ◌≤◌, ◌-◌, ◌^◌, All, IfOk, map, true};
+ghost use Rattle.shade_flow.specs.Counted.{point_counted, step_counted};
+ghost use Rattle.shade_flow.specs.Tables.{number, numbers, IsBelow, Joins};
 
 use crate::Point;
 use std::alloc::{AllocError, Global};
 
-/// The number of a statement's point, or want of memory where it takes more than 32 bits.
-fn doubled(statement: u32, more: u32) -> Result<u32, AllocError>
-    requires { more ≤ 2 }
-    ensures { IfOk result (λ n. n ≡ 2 * statement + more) }
-{
-    if statement > (u32::MAX - 2) / 2 {
-        return Err(AllocError);
-    }
-    Ok(2 * statement + more)
-}
-
-/// Gives the number of a point. One that takes more than 32 bits is answered as want of memory.
-pub fn number_of(point: Point) -> Result<u32, AllocError>
-    ensures { IfOk result (λ n. n ≡ number point) }
+/// Gives the number of a point.
+pub fn number_of(point: Point) -> u64
+    ensures { result ≡ number point }
 {
     match point {
-        Point::Past => Ok(0),
-        Point::At(statement) => doubled(statement, 1),
-        Point::Turn(statement) => doubled(statement, 2),
+        Point::Past => 0,
+        Point::At(statement) => 2 * (statement as u64) + 1,
+        Point::Turn(statement) => 2 * (statement as u64) + 2,
     }
+}
+
+/// Gives the number of a point as that of a node.
+pub fn node_of(point: Point) -> u32
+    requires { point_counted point ≡ true }
+    ensures { result ≡ number point }
+{
+    number_of(point) as u32
 }
 
 /// One way as an edge between numbers.
-fn edge_of(step: (Point, Point)) -> Result<(u32, u32), AllocError>
-    ensures { IfOk result (λ edge. edge ≡ numbers step) }
+fn edge_of(step: (Point, Point)) -> (u32, u32)
+    requires { step_counted step ≡ true }
+    ensures { result ≡ numbers step }
 {
-    let from = number_of(step.0)?;
-    let to = number_of(step.1)?;
-    Ok((from, to))
+    (node_of(step.0), node_of(step.1))
 }
 
 /// The ways of a function as edges between numbers.
 pub fn numbered(alloc: Global, steps: &[(Point, Point)]) -> Result<Vec<(u32, u32)>, AllocError>
+    requires { All (λ step. step_counted step ≡ true) steps.now }
     ensures { IfOk result (λ edges. edges.items ≡ map numbers steps.now) }
 {
     let mut edges = Vec::with_capacity(alloc, steps.len())?;
     for step in steps {
-        edges.push(edge_of(*step)?)?;
+        edges.push(edge_of(*step))?;
     }
     Ok(edges)
 }
 
-/// A count that is no less, and above a number.
-fn above(count: u32, number: u32) -> Result<u32, AllocError>
-    ensures { IfOk result (λ n. (count ≤ n) × (number < n)) }
+/// The greater of a count and the count of the numbers up to one.
+fn above(count: u32, number: u32) -> u32
+    requires { number < 2 ^ 32 - 1 }
+    ensures count { count ≤ result }
+    ensures number { number < result }
 {
-    if number < count {
-        return Ok(count);
-    }
-    number.checked_add(1).ok_or(AllocError)
+    count.max(number + 1)
 }
 
 /// A count of nodes above one number and above all ends of some edges.
-pub fn node_count(edges: &[(u32, u32)], first: u32) -> Result<u32, AllocError>
-    ensures first { IfOk result (λ count. first < count) }
-    ensures edges { IfOk result (λ count. All (Joins count) edges.now) }
+pub fn node_count(edges: &[(u32, u32)], first: u32) -> u32
+    requires first { first < 2 ^ 32 - 1 }
+    requires edges { All IsBelow edges.now }
+    ensures first { first < result }
+    ensures edges { All (Joins result) edges.now }
 {
-    let mut count = above(0, first)?;
+    let mut count = above(0, first);
     for edge in edges {
-        count = above(count, edge.0)?;
-        count = above(count, edge.1)?;
+        count = above(count, edge.0);
+        count = above(count, edge.1);
     }
-    Ok(count)
+    count
 }

@@ -1,6 +1,7 @@
 //! The search of a whole function.
 
-ghost use Rattle.std.specs.Prelude.{IfOk};
+ghost use Rattle.std.specs.Prelude.{◌≡◌, true, IfOk};
+ghost use Rattle.shade_flow.specs.Counted.{is_counted};
 ghost use Rattle.shade_flow.specs.Exact.{IsReachingOf};
 
 use crate::chunks::chunks_of;
@@ -15,9 +16,10 @@ use std::alloc::{AllocError, Global};
 /// What is kept is right for a function whose statements are numbered in structure order.
 ///
 /// Takes memory in the order of the function's points times the definitions by 64. Takes time in that order, and in that of the
-/// statements that write times the definitions. A function of 2^31 statements or more, whose points have no numbers of 32 bits,
-/// is answered as want of memory.
+/// statements that write times the definitions. The function's points, parameters and arguments have numbers of 32 bits
+/// (`is_counted` tells).
 pub fn reaching(alloc: Global, function: &CoreFunction) -> Result<Reaching, AllocError>
+    requires { is_counted function.now ≡ true }
     ensures { IfOk result (λ reaching. IsReachingOf function.now reaching) }
 {
     let routes = routes_of(alloc, function)?;

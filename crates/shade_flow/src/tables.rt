@@ -1,6 +1,6 @@
 //! What begins, is made and passes at each point, as a word of bits: a bit for each of some definitions.
 
-ghost use Rattle.std.specs.Prelude.{◌≡◌, ◌≢◌, ◌<◌, ◌≤◌, ◌↔◌, ◌∷◌, [], ℕ, IfOk, OnOk, length, replicate, ◌-◌, ◌^◌};
+ghost use Rattle.std.specs.Prelude.{◌≡◌, ◌≢◌, ◌<◌, ◌≤◌, ◌↔◌, ◌∷◌, [], ℕ, IfOk, length, replicate, ◌-◌, ◌^◌};
 ghost use Rattle.std.specs.Int.{bit_at};
 ghost use Rattle.shade_flow.specs.Bits.{Has};
 ghost use Rattle.shade_flow.specs.Tables.{made_at, begun_at, SetsBit, AreBits, AreBitsOf, AreStopped};
@@ -28,35 +28,35 @@ fn without(word: u64, bits: u64) -> u64
 }
 
 /// Sets a bit at a place, where there is one.
-fn set_bit(rows: &mut Vec<u64>, place: Option<u32>, bit: u32)
+fn set_bit(rows: &mut Vec<u64>, place: Option<u64>, bit: u32)
     requires { bit < 64 }
     ensures { SetsBit rows.old.items place bit rows.new.items }
 {
     if let Some(point) = place {
-        if (point as usize) < rows.len() {
+        if point < rows.len() as u64 {
             rows[point as usize] = with_bit(rows[point as usize], bit);
         }
     }
 }
 
 /// The number of the point at which a definition is made; an entry is made at none.
-fn place_made(by: Definition) -> Result<Option<u32>, AllocError>
-    ensures { IfOk result (λ place. place ≡ made_at by) }
+fn place_made(by: Definition) -> Option<u64>
+    ensures { result ≡ made_at by }
 {
     match by {
-        Definition::Entry(_) => Ok(None),
+        Definition::Entry(_) => None,
         Definition::At(statement) | Definition::Argument(statement, _) => {
-            Ok(Some(number_of(Point::At(statement))?))
+            Some(number_of(Point::At(statement)))
         }
     }
 }
 
 /// The point at which a definition begins, where entries begin at the first.
-fn place_begun(by: Definition, first: u32) -> Option<u32>
+fn place_begun(by: Definition, first: u32) -> Option<u64>
     ensures { result ≡ begun_at first by }
 {
     match by {
-        Definition::Entry(_) => Some(first),
+        Definition::Entry(_) => Some(first as u64),
         _ => None,
     }
 }
@@ -69,8 +69,7 @@ pub fn made(alloc: Global, nodes: u32, definitions: &[Defined]) -> Result<Vec<u6
     let mut rows = vec![in alloc; 0; nodes as usize]?;
     let mut bit = 0;
     for defined in definitions {
-        let place = place_made(defined.by)?;
-        set_bit(&mut rows, place, bit);
+        set_bit(&mut rows, place_made(defined.by), bit);
         bit += 1;
     }
     Ok(rows)
@@ -112,35 +111,29 @@ fn bits_of(definitions: &[Defined], variable: Base) -> u64
 }
 
 /// Takes out the bits of the definitions that a write stops at its point.
-fn stop(rows: &mut Vec<u64>, write: Write, definitions: &[Defined]) -> Result<(), AllocError>
+fn stop(rows: &mut Vec<u64>, write: Write, definitions: &[Defined])
     requires { length definitions.now ≤ 64 }
-    ensures { OnOk result (AreStopped definitions.now (write ∷ []) rows.old.items rows.new.items) }
+    ensures { AreStopped definitions.now (write ∷ []) rows.old.items rows.new.items }
 {
     if !write.whole {
-        return Ok(());
+        return;
     }
-    if let Some(point) = place_made(write.defined.by)? {
-        if (point as usize) < rows.len() {
+    if let Some(point) = place_made(write.defined.by) {
+        if point < rows.len() as u64 {
             let bits = bits_of(definitions, write.defined.variable);
             rows[point as usize] = without(rows[point as usize], bits);
         }
     }
-    Ok(())
 }
 
 /// Takes out the bits of the definitions that some writes stop, at the point of each write.
-pub fn stop_all(
-    rows: &mut Vec<u64>,
-    writes: &[Write],
-    definitions: &[Defined],
-) -> Result<(), AllocError>
+pub fn stop_all(rows: &mut Vec<u64>, writes: &[Write], definitions: &[Defined])
     requires { length definitions.now ≤ 64 }
-    ensures { OnOk result (AreStopped definitions.now writes.now rows.old.items rows.new.items) }
+    ensures { AreStopped definitions.now writes.now rows.old.items rows.new.items }
 {
     for write in writes {
-        stop(rows, *write, definitions)?;
+        stop(rows, *write, definitions);
     }
-    Ok(())
 }
 
 /// Rows in which every bit is there.

@@ -1,8 +1,9 @@
 //! What the statements of a function write.
 
-ghost use Rattle.std.specs.Prelude.{◌≡◌, ◌++◌, ◌∷◌, [], drop, map, IfOk};
+ghost use Rattle.std.specs.Prelude.{◌≡◌, ◌<◌, ◌^◌, ◌++◌, ◌∷◌, [], length, drop, map, true, IfOk};
 ghost use Rattle.shade_core.specs.Code.{code_of, part_code, parts_from};
 ghost use Rattle.shade_core.specs.declared.statement.Act.{out-Act};
+ghost use Rattle.shade_flow.specs.Counted.{are_counted, layer_counted};
 ghost use Rattle.shade_flow.specs.Flow.{is_whole};
 ghost use Rattle.shade_flow.specs.Writes.{write, writes_through, call_writes, writes_of, layer_writes};
 
@@ -13,6 +14,7 @@ use std::alloc::{AllocError, Global};
 
 /// What a whole function writes, in structure order.
 pub fn function_writes(alloc: Global, body: &Items<CoreStatement>) -> Result<Vec<Write>, AllocError>
+    requires { are_counted (code_of body.now) ≡ true }
     ensures { IfOk result (λ writes. writes.items ≡ writes_of (code_of body.now)) }
 {
     let mut writes = Vec::new(alloc);
@@ -64,11 +66,9 @@ fn add_arguments(
     arguments: &[Argument],
     writes: &mut Vec<Write>,
 ) -> Result<(), AllocError>
+    requires { length arguments.now < 2 ^ 32 }
     ensures { IfOk result (λ _. writes.new.items ≡ writes.old.items ++ call_writes number 0 arguments.now) }
 {
-    if arguments.len() > u32::MAX as usize {
-        return Err(AllocError);
-    }
     let mut place = 0;
     'arguments: for argument in arguments {
         add_argument(argument, Definition::Argument(number, place), writes)?;
@@ -80,6 +80,7 @@ fn add_arguments(
 /// Adds what a statement writes, and the statements in it.
 #[cycle(writes)]
 fn add_statement(statement: &CoreStatement, writes: &mut Vec<Write>) -> Result<(), AllocError>
+    requires { layer_counted (out-Act statement.now.act) ≡ true }
     ensures { IfOk result (λ _. writes.new.items ≡ writes.old.items ++ layer_writes statement.now.number (out-Act statement.now.act)) }
 {
     let by = Definition::At(statement.number);
@@ -107,6 +108,7 @@ fn add_statement(statement: &CoreStatement, writes: &mut Vec<Write>) -> Result<(
 /// Adds what the statements of a list write.
 #[cycle(writes)]
 fn add_list(statements: &Items<CoreStatement>, writes: &mut Vec<Write>) -> Result<(), AllocError>
+    requires { are_counted (code_of statements.now) ≡ true }
     ensures { IfOk result (λ _. writes.new.items ≡ writes.old.items ++ writes_of (code_of statements.now)) }
 {
     'statements: for statement in statements.as_slice() {
@@ -122,6 +124,7 @@ fn add_parts(
     number: u32,
     writes: &mut Vec<Write>,
 ) -> Result<(), AllocError>
+    requires { are_counted (parts_from 0 0 (map part_code parts.now)) ≡ true }
     ensures { IfOk result (λ _. writes.new.items ≡ writes.old.items ++ writes_of (parts_from number 0 (map part_code parts.now))) }
 {
     'parts: for part in parts.as_slice() {

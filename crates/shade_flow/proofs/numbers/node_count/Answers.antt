@@ -4,8 +4,8 @@ use Rattle.shade_flow.proofs.numbers.node_count.Goals as goal
 
 pub loop-edge-preserved : goal.loop-edge-preserved
 loop-edge-preserved c = record {
-  first = omega (arith, c.loop-edge.invariant.first, c.in_ok-count-2.ensures, c.in_ok-count-3.ensures);
-  edges = edges_more _ _ _ _ _ _ c.loop-edge.invariant.edges c.loop-edge-test.true c.in_ok-count-2.ensures.0 c.in_ok-count-2.ensures.1 c.in_ok-count-3.ensures.0 c.in_ok-count-3.ensures.1;
+  first = omega (arith, c.loop-edge.invariant.first, c.above-count-in-loop-edge.ensures.count, c.above-count-in-loop-edge-2.ensures.count);
+  edges = edges_more _ _ _ _ _ _ c.loop-edge.invariant.edges c.loop-edge-test.true c.above-count-in-loop-edge.ensures.count c.above-count-in-loop-edge.ensures.number c.above-count-in-loop-edge-2.ensures.count c.above-count-in-loop-edge-2.ensures.number;
 }
 
 pub returns-clause-edges : goal.returns-clause-edges
