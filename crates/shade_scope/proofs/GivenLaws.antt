@@ -17,7 +17,7 @@ use Rattle.shade_scope.specs.declared.conflicts.Given.{Given}
 use Rattle.shade_scope.specs.declared.conflicts.Given.TheVariants as given
 use Rattle.shade_scope.specs.declared.fault.ScopeFault.{ScopeFault}
 use Rattle.shade_scope.specs.declared.fault.ScopeFault.TheVariants as fault
-use Rattle.shade_scope.specs.Conflicts.{clashes, conflict_of, conflicts, is_clash, is_same_rule, rank, with_filter}
+use Rattle.shade_scope.specs.Conflicts.{conflict_of, conflicts, is_clash, is_same_rule, rank, with_filter}
 use Rattle.shade_scope.specs.Faults.{earlier, least_of}
 use Rattle.shade_scope.specs.Given.{Key, Keeps, conflict_by, differs, key_cmp, joined, key, summary, taken}
 use Rattle.shade_scope.proofs.FaultLaws.{least_turn}

@@ -1,11 +1,11 @@
 -- The book of what is in force: how it is read, and how it is kept.
-use Rattle.std.proofs.Common.{◌≡◌, refl, sym, ap, subst, ◌∙◌, ℕ, zero, suc, ◌<◌, ◌≤◌, Bool, true, false, List, [], ◌∷◌, ◌++◌, get_or, length, length-append, length-set, map, take, Option, Some, None, inl, inr, arith, true≢false}
+use Rattle.std.proofs.Common.{◌≡◌, refl, sym, ap, subst, ◌∙◌, ℕ, zero, suc, ◌<◌, ◌≤◌, Bool, true, false, List, [], ◌∷◌, ◌++◌, get_or, length, length-set, take, Option, Some, None, inl, inr, arith, true≢false}
 use Rattle.std.proofs.lemmas.Bool.Decides.{nat_tests}
 use Rattle.std.proofs.lemmas.List.{take-append-le}
 use Rattle.std.proofs.lemmas.Option.{slice_get_within, slice_get-get_or}
 use Rattle.std.proofs.Math.Seq.{take-append_seam}
 use Rattle.std.specs.Prelude.{◌⊎◌, ◌==◌, MatchOption, ⊤, replicate, slice_get, slice_set}
-use Rattle.shade_reach.proofs.SearchLaws.{get-append_left, get-set_same, get-set_other}
+use Rattle.shade_reach.proofs.SearchLaws.{get-append_left, get-set_other}
 use Rattle.shade_scope.specs.declared.bound.Bound.{Bound}
 use Rattle.shade_scope.specs.declared.scopes.Kept.{Kept}
 use Rattle.shade_scope.specs.InForce.{InForce, without_last}

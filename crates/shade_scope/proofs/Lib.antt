@@ -6,3 +6,7 @@ pub mod GivenLaws
 pub mod IndexLaws
 pub mod CycleLaws
 pub mod LeastLaws
+pub mod Walks
+pub mod TreeWalks
+pub mod NodeLaws
+pub mod GradeLaws

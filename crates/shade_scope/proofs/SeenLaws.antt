@@ -10,11 +10,10 @@ use Rattle.shade_events.specs.declared.event.Event.TheVariants as event
 use Rattle.shade_scope.specs.declared.bound.Bound.{Bound}
 use Rattle.shade_scope.specs.declared.fault.ScopeFault.{ScopeFault}
 use Rattle.shade_scope.specs.declared.fault.ScopeFault.TheVariants as fault
-use Rattle.shade_scope.specs.declared.naming.State.{State}
 use Rattle.shade_scope.specs.InForce.{Loop, Context, without_last, on_last}
 use Rattle.shade_scope.specs.Scopes as rule
 use Rattle.shade_scope.specs.Seen as kept
-use Rattle.shade_scope.specs.Faults.{earlier, key, least_of}
+use Rattle.shade_scope.specs.Faults.{earlier, least_of}
 use Rattle.shade_scope.proofs.FaultLaws.{earlier_none, least_more}
 
 -- ---- events

@@ -12,7 +12,7 @@ use Rattle.shade_scope.specs.InForce.{Context}
 use Rattle.shade_scope.specs.Scopes.{after, noted, resolved, faults_of, told, link_of, links, start}
 use Rattle.shade_scope.specs.Seen.{faults, next, seen, skip}
 use Rattle.shade_scope.specs.Faults.{earlier, least_of}
-use Rattle.shade_scope.specs.Ranges.{blank}
+use Rattle.shade_scope.specs.Grades.{blank}
 use Rattle.shade_scope.proofs.FaultLaws.{least_turn}
 use Rattle.shade_scope.proofs.SeenLaws.{faults_seen, next_seen}
 

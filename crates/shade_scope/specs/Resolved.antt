@@ -1,17 +1,19 @@
 -- The answer about a tree: what its names mean and how grave violations are, or the first fault.
-use Rattle.std.specs.Prelude.{◌≡◌, ℕ, ◌⊎◌, List, [], Contains, Option, Some, None, Result, Ok, Err, ⊤}
-use Rattle.shade_base.specs.declared.severity.Severity.{Severity}
-use Rattle.shade_base.specs.declared.severity.Severity.TheVariants as severity
+use Rattle.std.specs.Prelude.{◌≡◌, ℕ, ◌⊎◌, List, [], ◌∷◌, Contains, Option, Some, None, Result, Ok, Err, ⊤}
 use Rattle.shade_ast.specs.declared.tree.Tree.{Tree}
 use Rattle.shade_scope.specs.declared.fault.ScopeFault.{ScopeFault}
 use Rattle.shade_scope.specs.declared.fault.ScopeFault.TheVariants as fault
 use Rattle.shade_scope.specs.declared.scoped.Meaning.{Meaning}
 use Rattle.shade_scope.specs.declared.scoped.Scoped.{Scoped}
+use Rattle.std.specs.List.{flat_map}
+use Rattle.shade_events.specs.declared.event.Event.{Event}
+use Rattle.shade_events.specs.declared.event.Event.TheVariants as event
 use Rattle.shade_events.specs.Events.{tree_events}
 use Rattle.shade_scope.specs.Scopes.{links, resolved, start, told}
 use Rattle.shade_scope.specs.Conflicts.{conflicts}
 use Rattle.shade_scope.specs.Cycles.{IsCycle, heads_of}
-use Rattle.shade_scope.specs.Ranges.{blank, grades, outside}
+use Rattle.shade_scope.specs.Ranges.{AreSeverities}
+use Rattle.shade_scope.specs.Grades.{blank}
 use Rattle.shade_scope.specs.Faults.{IsLeast}
 
 -- which declarations of the module use which
@@ -28,19 +30,23 @@ tree_conflicts t = conflicts [] (tree_events t)
 abbrev pub IsFault : Tree → ScopeFault → Type 0
 IsFault t f = (Contains (tree_told t) f ⊎ Contains (tree_conflicts t) f) ⊎ IsCycle (tree_links t) (heads_of t.decls) f
 
+-- the nodes of some events, by their numbers
+abbrev pub node_in : Event → List ℕ
+node_in (event.Node node) = node ∷ []
+node_in _ = []
+
+abbrev pub event_nodes : List Event → List ℕ
+event_nodes events = flat_map node_in events
+
 -- what each use of a name means, by its node
 abbrev pub tree_uses : Tree → List (Option Meaning)
 tree_uses t = resolved t.names start (tree_events t) (blank None (tree_events t))
-
--- how grave a violation is, by the node
-abbrev pub tree_filters : Tree → List Severity
-tree_filters t = grades t.names outside (tree_events t) (blank severity.Error (tree_events t))
 
 pub record IsScoped (t : Tree) (s : Scoped) : Type 0 where
   pub none : (f : ScopeFault) → IsFault t f → ⊥
   pub tree : s.tree ≡ t
   pub uses : s.uses ≡ tree_uses t
-  pub filters : s.filters ≡ tree_filters t
+  pub filters : AreSeverities t s.filters
 
 -- the first fault; want of memory may come in place of each answer
 abbrev pub IsRefused : Tree → ScopeFault → Type 0

@@ -5,6 +5,7 @@ mod bound;
 mod conflicts;
 mod cycles;
 mod fault;
+mod laws;
 mod lists;
 mod naming;
 mod predeclared;
@@ -15,6 +16,7 @@ mod scoped;
 mod scopes;
 
 pub use fault::ScopeFault;
+pub use laws::events_have_each_node;
 pub use lists::{Filters, Uses};
 pub use resolving::resolve;
 pub use scoped::{Meaning, Scoped, severity_at};

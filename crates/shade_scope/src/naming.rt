@@ -7,7 +7,7 @@ ghost use Rattle.shade_scope.specs.Predeclared.{is_predeclared_name};
 ghost use Rattle.shade_scope.specs.Scopes.{called_entry, link_of, linked, links, meant, meant_by, noted, resolved, start, told};
 ghost use Rattle.shade_scope.specs.Seen.{before, begun, continued, faults, first_of, next, skip, turned, use_faults};
 ghost use Rattle.shade_scope.specs.Faults.{earlier, is_no_later, key, least_of};
-ghost use Rattle.shade_scope.specs.Ranges.{blank};
+ghost use Rattle.shade_scope.specs.Grades.{blank};
 
 use crate::bound::Bound;
 use crate::fault::ScopeFault;

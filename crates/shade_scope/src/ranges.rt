@@ -5,7 +5,8 @@ ghost use Rattle.shade_base.specs.declared.severity.Severity.TheVariants.{Error}
 ghost use Rattle.shade_scope.specs.InForce.{without_last};
 ghost use Rattle.shade_scope.specs.Scopes.{last_or};
 ghost use Rattle.shade_events.specs.Words.{is_one_of, is_word};
-ghost use Rattle.shade_scope.specs.Ranges.{blank, covered, given, graded, grades, is_uniformity, outside, placed, rule_words, scope_words};
+ghost use Rattle.shade_scope.specs.Grades.{blank, covered, given, graded, grades, outside, placed};
+ghost use Rattle.shade_scope.specs.Ranges.{is_uniformity, rule_words, scope_words};
 
 use shade_ast::Names;
 use shade_base::Severity;

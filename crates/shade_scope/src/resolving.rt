@@ -2,7 +2,8 @@
 
 ghost use Rattle.std.specs.Prelude.{◌≡◌, IfOk, IsErrAnd};
 ghost use Rattle.shade_scope.specs.Faults.{IsLeast};
-ghost use Rattle.shade_scope.specs.Resolved.{IsFault, IsResolved, tree_filters, tree_uses};
+ghost use Rattle.shade_scope.specs.Ranges.{AreSeverities};
+ghost use Rattle.shade_scope.specs.Resolved.{IsFault, IsResolved, tree_uses};
 
 use crate::conflicts::least_conflict;
 use crate::cycles::least_cycle;
@@ -26,7 +27,7 @@ pub struct Examined {
 fn examine(alloc: Global, tree: &Tree) -> Result<Examined, AllocError>
     ensures least { IfOk result (λ e. IsLeast (IsFault tree.now) e.least) }
     ensures uses { IfOk result (λ e. e.uses ≡ tree_uses tree.now) }
-    ensures filters { IfOk result (λ e. e.filters ≡ tree_filters tree.now) }
+    ensures filters { IfOk result (λ e. AreSeverities tree.now e.filters) }
 {
     let events = events(alloc, tree)?;
     let row = events.as_slice();

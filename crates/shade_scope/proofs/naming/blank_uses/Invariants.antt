@@ -1,6 +1,6 @@
 use Rattle.std.proofs.Common.{◌≡◌, ◌++◌, drop, None}
 use Rattle.std.specs.List.{flat_map}
-use Rattle.shade_scope.specs.Ranges.{placed}
+use Rattle.shade_scope.specs.Grades.{placed}
 use Rattle.shade_scope.proofs.naming.blank_uses.Given as goal
 
 abbrev pub invariant-loop-event : goal.invariant-loop-event

@@ -1,7 +1,7 @@
 use Rattle.std.proofs.Common.{◌≡◌, ◌++◌, drop}
 use Rattle.std.specs.List.{flat_map}
 use Rattle.shade_base.specs.declared.severity.Severity.TheVariants.{Error}
-use Rattle.shade_scope.specs.Ranges.{placed}
+use Rattle.shade_scope.specs.Grades.{placed}
 use Rattle.shade_scope.proofs.ranges.blank_grades.Given as goal
 
 abbrev pub invariant-loop-event : goal.invariant-loop-event

@@ -1,6 +1,6 @@
 use Rattle.std.proofs.Common.{◌≡◌, drop}
 use Rattle.shade_base.specs.declared.severity.Severity.TheVariants.{Error}
-use Rattle.shade_scope.specs.Ranges.{blank, grades, outside}
+use Rattle.shade_scope.specs.Grades.{blank, grades, outside}
 use Rattle.shade_scope.proofs.ranges.grades.Given as goal
 
 abbrev pub invariant-loop-event : goal.invariant-loop-event

@@ -1,4 +1,3 @@
-use Rattle.std.proofs.Common.{refl}
 use Rattle.shade_scope.proofs.IndexLaws.{kept_more, mapped_more}
 use Rattle.shade_scope.proofs.scopes.keep.Goals as goal
 
