@@ -1,25 +1,31 @@
 //! Names and filters: texts that are accepted or refused, what uses mean, and how grave violations are.
 
 use shade_base::Severity;
-use shade_lex::{lex, templates};
+use shade_lex::{Tokens, lex, templates};
 use shade_parse::parse;
 use shade_scope::{Meaning, ScopeFault, Scoped, resolve, severity_at};
 use std::alloc::{AllocError, Global};
+
+/// What the tokens of a text mean, where they spell a tree.
+fn meaning(alloc: Global, tokens: &Tokens) -> Result<Scoped, ScopeFault> {
+    let _text = tokens.text();
+    let Ok(pairs) = templates(alloc, tokens) else {
+        return Err(ScopeFault::NoMemory);
+    };
+    match parse(alloc, tokens, &pairs) {
+        Ok(tree) => resolve(alloc, tree),
+        Err(_) => Err(ScopeFault::NoMemory),
+    }
+}
 
 fn read(alloc: Global, text: &str) -> Result<Scoped, ScopeFault> {
     if text.len() > 1_048_576 {
         return Err(ScopeFault::NoMemory);
     }
-    let Ok(tokens) = lex(alloc, text) else {
-        return Err(ScopeFault::NoMemory);
-    };
-    let Ok(pairs) = templates(alloc, &tokens) else {
-        return Err(ScopeFault::NoMemory);
-    };
-    let Ok(tree) = parse(alloc, &tokens, &pairs) else {
-        return Err(ScopeFault::NoMemory);
-    };
-    resolve(alloc, tree)
+    match lex(alloc, text) {
+        Ok(tokens) => meaning(alloc, &tokens),
+        Err(_) => Err(ScopeFault::NoMemory),
+    }
 }
 
 /// The name of a fault, with its offset, line and column.

@@ -17,11 +17,11 @@ use Rattle.shade_events.specs.Events.{Es, tree_events}
 use Rattle.shade_scope.specs.declared.ranges.Ranges.{Ranges}
 use Rattle.shade_scope.specs.Ranges.{AreSeverities, IsNumbered, IsSeverity, IsSeverityAt, LiesWithin, Piece, Range, Rules, is_uniformity, later, plain, ruling, severity_at, severity_or, tree_piece}
 use Rattle.shade_scope.specs.Grades.{blank, covered, given, graded, grades, outside}
-use Rattle.shade_scope.specs.Resolved.{event_nodes, node_in}
+use Rattle.shade_scope.specs.Resolved.{event_nodes}
 use Rattle.shade_scope.proofs.EndLaws.{last_more, without_more}
 use Rattle.shade_scope.proofs.Walks.{Told, Walk, at, drop, is_other, next, none, within}
 use Rattle.shade_scope.proofs.TreeWalks.{tree_told}
-use Rattle.shade_scope.proofs.NodeLaws.{tree_event_nodes}
+use Rattle.shade_scope.proofs.NodeLaws.{Any, blank_nodes, tree_event_nodes}
 use Rattle.shade_reach.proofs.SearchLaws.{get-set_other, get-set_same}
 
 -- ---- members of lists
@@ -55,7 +55,7 @@ count_low : (ns : List ℕ) (from to n : ℕ) → CountFrom from ns to → Conta
 count_low [] from to n c m = absurd (empty n m)
 count_low (x ∷ ns) from to n c m = elim (cons_cases x ns n m) [ inl e ↦ omega (arith, e, c.0) | inr t ↦ omega (arith, count_low ns (from + 1) to n c.1 t) ]
 
-count_high : (ns : List ℕ) (from to n : ℕ) → CountFrom from ns to → Contains ns n → n < to
+pub count_high : (ns : List ℕ) (from to n : ℕ) → CountFrom from ns to → Contains ns n → n < to
 count_high [] from to n c m = absurd (empty n m)
 count_high (x ∷ ns) from to n c m = elim (cons_cases x ns n m) [ inl e ↦ omega (arith, e, c.0, count_length ns (from + 1) to c.1) | inr t ↦ count_high ns (from + 1) to n c.1 t ]
 
@@ -65,14 +65,14 @@ apart xs ys from mid to n c d a b = omega (arith, count_high xs from mid n c a, 
 
 -- ---- ranges
 
-range_nodes : {a b : Es} {p : Piece} → Walk a b p → (r : Range) → Contains p.ranges r → (n : ℕ) → Contains r.nodes n → Contains p.nodes n
+range_nodes : {K : ℕ → Type 0} {a b : Es} {p : Piece} → Walk K a b p → (r : Range) → Contains p.ranges r → (n : ℕ) → Contains r.nodes n → Contains p.nodes n
 range_nodes none r c n m = absurd (empty r c)
 range_nodes (at k) r c n m = absurd (empty r c)
 range_nodes (next {p = p} {q = q} x y) r c n m = elim (Contains-append_cases p.ranges q.ranges r c) [
   | inl l ↦ Contains-append_left p.nodes q.nodes n (range_nodes x r l n m)
   | inr l ↦ Contains-append_right p.nodes q.nodes n (range_nodes y r l n m)
 ]
-range_nodes (drop e ok x) r c n m = range_nodes x r c n m
+range_nodes (drop e ok known_number x) r c n m = range_nodes x r c n m
 range_nodes (within {p = p} ns fs few x is y) r c n m = elim (cons_cases (record { nodes = p.nodes; filters = fs }) p.ranges r c) [
   | inl e ↦ Contains-append_right ns p.nodes n (subst (λ (z : Range). Contains z.nodes n) (sym e) m)
   | inr l ↦ Contains-append_right ns p.nodes n (range_nodes y r l n m)
@@ -80,7 +80,7 @@ range_nodes (within {p = p} ns fs few x is y) r c n m = elim (cons_cases (record
 
 module _ (names : List (List ℕ)) where
   -- a range with a filter leaves out a node of its piece: one that the filter comes from
-  outer_node : {a b : Es} {p : Piece} → Walk a b p → (from to : ℕ) → CountFrom from p.nodes to → (r : Range) → Contains p.ranges r → (t : Severity) → ruling names r.filters ≡ Some t
+  outer_node : {K : ℕ → Type 0} {a b : Es} {p : Piece} → Walk K a b p → (from to : ℕ) → CountFrom from p.nodes to → (r : Range) → Contains p.ranges r → (t : Severity) → ruling names r.filters ≡ Some t
       → (m : ℕ) × Contains p.nodes m × (Contains r.nodes m → ⊥)
   outer_node none from to k r c t g = absurd (empty r c)
   outer_node (at n) from to k r c t g = absurd (empty r c)
@@ -90,7 +90,7 @@ module _ (names : List (List ℕ)) where
         | inl l ↦ (let o : (m : ℕ) × Contains p.nodes m × (Contains r.nodes m → ⊥) = outer_node x from s.0 s.1 r l t g in (o.0, Contains-append_left p.nodes q.nodes o.0 o.1, o.2))
         | inr l ↦ (let o : (m : ℕ) × Contains q.nodes m × (Contains r.nodes m → ⊥) = outer_node y s.0 to s.2 r l t g in (o.0, Contains-append_right p.nodes q.nodes o.0 o.1, o.2))
       ]
-  outer_node (drop e ok x) from to k r c t g = outer_node x from to k r c t g
+  outer_node (drop e ok known_number x) from to k r c t g = outer_node x from to k r c t g
   outer_node (within {p = p} ns fs few x is y) from to k r c t g =
       let s : (mid : ℕ) × CountFrom from ns mid × CountFrom mid p.nodes to = count_split ns p.nodes from to k in
       elim (cons_cases (record { nodes = p.nodes; filters = fs }) p.ranges r c) [
@@ -109,7 +109,7 @@ module _ (names : List (List ℕ)) where
           (h, head_in h (hs ++ p.nodes), λ z. apart (h ∷ hs) p.nodes from mid to h a b (head_in h hs) (subst (λ (l : List ℕ). Contains l h) same z))
 
   -- of ranges with filters around a node no two lie within each other
-  one_range : {a b : Es} {p : Piece} → Walk a b p → (from to : ℕ) → CountFrom from p.nodes to → (r q : Range) → Contains p.ranges r → Contains p.ranges q
+  one_range : {K : ℕ → Type 0} {a b : Es} {p : Piece} → Walk K a b p → (from to : ℕ) → CountFrom from p.nodes to → (r q : Range) → Contains p.ranges r → Contains p.ranges q
       → (n : ℕ) → Contains r.nodes n → Contains q.nodes n → (t u : Severity) → ruling names r.filters ≡ Some t → ruling names q.filters ≡ Some u
       → LiesWithin r q → LiesWithin q r → r ≡ q
   one_range none from to k r q c d n m o t u g h v w = absurd (empty r c)
@@ -126,7 +126,7 @@ module _ (names : List (List ℕ)) where
           | inr j ↦ one_range y s.0 to s.2 r q l j n m o t u g h v w
         ]
       ]
-  one_range (drop e ok x) from to k r q c d n m o t u g h v w = one_range x from to k r q c d n m o t u g h v w
+  one_range (drop e ok known_number x) from to k r q c d n m o t u g h v w = one_range x from to k r q c d n m o t u g h v w
   one_range (within {p = p} ns fs few x is y) from to k r q c d n m o t u g h v w =
       let s : (mid : ℕ) × CountFrom from ns mid × CountFrom mid p.nodes to = count_split ns p.nodes from to k in
       let outer : Range = record { nodes = p.nodes; filters = fs } in
@@ -146,7 +146,7 @@ module _ (names : List (List ℕ)) where
       ]
 
   -- so the severity at a node is one
-  one_severity : {a b : Es} {p : Piece} → Walk a b p → (from to : ℕ) → CountFrom from p.nodes to → (out : Severity) (n : ℕ) (s t : Severity)
+  one_severity : {K : ℕ → Type 0} {a b : Es} {p : Piece} → Walk K a b p → (from to : ℕ) → CountFrom from p.nodes to → (out : Severity) (n : ℕ) (s t : Severity)
       → IsSeverity names p.ranges out n s → IsSeverity names p.ranges out n t → s ≡ t
   one_severity x from to k out n s t (inl a) (inl b) =
       let same : a.range ≡ b.range =
@@ -230,7 +230,7 @@ module _ (names : List (List ℕ)) where
   joined_told : (u v x y z : List (ℕ × Severity)) → x ≡ u ++ y → y ≡ v ++ z → x ≡ (u ++ v) ++ z
   joined_told u v x y z e f = e ∙ ap (λ l. u ++ l) f ∙ sym (append_assoc u v z)
 
-  writes : {a b : Es} {p : Piece} (r : Ranges) → Walk a b p → Written r a b p
+  writes : {K : ℕ → Type 0} {a b : Es} {p : Piece} (r : Ranges) → Walk K a b p → Written r a b p
   writes r none = record { pairs = []; told = refl; nodes = refl; right = λ from to k n s c. absurd (empty (n, s) c) }
   writes r (at m) = record {
     pairs = (m, r.current) ∷ [];
@@ -272,7 +272,7 @@ module _ (names : List (List ℕ)) where
                   (v.right d.0 to d.2 n s l))
             ];
       }
-  writes r (drop {b = b} {p = p} e ok x) =
+  writes r (drop {b = b} {p = p} e ok known_number x) =
       let u : Written r _ _ p = writes r x in
       record { pairs = u.pairs; told = u.told ∙ ap (λ l. u.pairs ++ l) (other_written e r b ok); nodes = u.nodes; right = u.right }
   writes r (within {b = b} {c = rest} {d = behind} {p = p} ns fs few x is y) =
@@ -302,13 +302,13 @@ module _ (names : List (List ℕ)) where
             ];
       }
     where
-      inside_of : {a b : Es} {p : Piece} → Walk a b p → (fs : List Filter) (g : Range) → Contains (record { nodes = p.nodes; filters = fs } ∷ p.ranges) g → (n : ℕ) → Contains g.nodes n → Contains p.nodes n
+      inside_of : {K : ℕ → Type 0} {a b : Es} {p : Piece} → Walk K a b p → (fs : List Filter) (g : Range) → Contains (record { nodes = p.nodes; filters = fs } ∷ p.ranges) g → (n : ℕ) → Contains g.nodes n → Contains p.nodes n
       inside_of {p = p} y fs g c n m = elim (cons_cases (record { nodes = p.nodes; filters = fs }) p.ranges g c) [
         | inl e ↦ subst (λ (z : Range). Contains z.nodes n) (sym e) m
         | inr l ↦ range_nodes y g l n m
       ]
 
-      by_outer : {a b : Es} {p : Piece} → Walk a b p → (fs : List Filter) (out : Severity) (n : ℕ) (s : Severity) → Contains p.nodes n
+      by_outer : {K : ℕ → Type 0} {a b : Es} {p : Piece} → Walk K a b p → (fs : List Filter) (out : Severity) (n : ℕ) (s : Severity) → Contains p.nodes n
           → ((g : Range) (t : Severity) → Rules names p.ranges n g t → ⊥) → (o : Option Severity) → ruling names fs ≡ o → s ≡ or_outer out o
           → IsSeverity names (record { nodes = p.nodes; filters = fs } ∷ p.ranges) out n s
       by_outer {p = p} y fs out n s here free None e is = inr (
@@ -328,7 +328,7 @@ module _ (names : List (List ℕ)) where
             ];
       })
 
-      by_inner : {a b : Es} {p : Piece} → Walk a b p → (fs : List Filter) (out : Severity) (n : ℕ) (s : Severity) → Contains p.nodes n → IsSeverity names p.ranges (left_by out fs) n s
+      by_inner : {K : ℕ → Type 0} {a b : Es} {p : Piece} → Walk K a b p → (fs : List Filter) (out : Severity) (n : ℕ) (s : Severity) → Contains p.nodes n → IsSeverity names p.ranges (left_by out fs) n s
           → IsSeverity names (record { nodes = p.nodes; filters = fs } ∷ p.ranges) out n s
       by_inner {p = p} y fs out n s here (inl a) = inl (record {
         range = a.range;
@@ -381,25 +381,17 @@ module _ (names : List (List ℕ)) where
   written_end [] r = refl
   written_end (e ∷ es) r = ap (λ l. pair_of r.current e ++ l) (written_end es (covered names r e))
 
-pub blank_nodes : {A : Type 0} (a : A) (es : Es) → blank a es ≡ map (λ n. a) (event_nodes es)
-blank_nodes a [] = refl
-blank_nodes a (e ∷ es) = step e ∙ ap (λ l. map (λ n. a) (node_in e) ++ l) (blank_nodes a es) ∙ sym (map-append (λ n. a) (node_in e) (event_nodes es))
-  where
-    step : (f : Event) → blank a (f ∷ es) ≡ map (λ n. a) (node_in f) ++ blank a es
-    step (event.Node n) = refl
-    step _ = refl
-
-pub severities : (t : Tree) (es : Es) (filters : List Severity) → es ≡ tree_events t → filters ≡ grades t.names outside es (blank severity.Error es) → AreSeverities t filters
-severities t es filters is_events is_filters = record { count = count; each = each }
+pub severities : (t : Tree) (es : Es) (filters : List Severity) → IsNumbered t → es ≡ tree_events t → filters ≡ grades t.names outside es (blank severity.Error es) → AreSeverities t filters
+severities t es filters numbered is_events is_filters = record { count = count; each = each }
   where
     table : List Severity
     table = blank severity.Error (tree_events t)
 
-    whole : Told (tree_events t ++ event.Uncovers ∷ []) [] (tree_piece t) (tree_nodes t)
-    whole = tree_told t
+    whole : Told Any (tree_events t ++ event.Uncovers ∷ []) [] (tree_piece t) (tree_nodes t)
+    whole = tree_told Any t (λ n c. tt)
 
-    walk : Walk ((tree_events t ++ event.Uncovers ∷ []) ++ []) [] (tree_piece t)
-    walk = whole.walk []
+    walk : Walk Any ((tree_events t ++ event.Uncovers ∷ []) ++ []) [] (tree_piece t)
+    walk = whole.walk (λ n c. tt) []
 
     w : Written t.names outside ((tree_events t ++ event.Uncovers ∷ []) ++ []) [] (tree_piece t)
     w = writes t.names outside walk
@@ -421,13 +413,13 @@ severities t es filters is_events is_filters = record { count = count; each = ea
     pair_nodes : numbers t.names w.pairs ≡ tree_nodes t
     pair_nodes = w.nodes ∙ whole.nodes
 
-    each : IsNumbered t → (n : ℕ) → Contains (tree_nodes t) n → (s : Severity) → IsSeverityAt t n s ↔ (severity_at filters n ≡ s)
-    each numbered n c s =
-        let counted : CountFrom 0 (tree_piece t).nodes numbered.0 = subst (λ (z : List ℕ). CountFrom 0 z numbered.0) (sym whole.nodes) numbered.1 in
-        let paired : CountFrom 0 (numbers t.names w.pairs) numbered.0 = subst (λ (z : List ℕ). CountFrom 0 z numbered.0) (sym pair_nodes) numbered.1 in
+    each : (n : ℕ) → Contains (tree_nodes t) n → (s : Severity) → IsSeverityAt t n s ↔ (severity_at filters n ≡ s)
+    each n c s =
+        let counted : CountFrom 0 (tree_piece t).nodes numbered.count = subst (λ (z : List ℕ). CountFrom 0 z numbered.count) (sym whole.nodes) numbered.numbered in
+        let paired : CountFrom 0 (numbers t.names w.pairs) numbered.count = subst (λ (z : List ℕ). CountFrom 0 z numbered.count) (sym pair_nodes) numbered.numbered in
         let found : (v : Severity) × Contains w.pairs (n, v) = pair_in t.names w.pairs n (subst (λ (z : List ℕ). Contains z n) (sym pair_nodes) c) in
-        let right : IsSeverityAt t n found.0 = w.right 0 numbered.0 counted n found.0 found.1 in
+        let right : IsSeverityAt t n found.0 = w.right 0 numbered.count counted n found.0 found.1 in
         let kept : slice_get filters n ≡ Some found.0 =
-        ap (λ (z : List Severity). slice_get z n) are ∙ sets_get t.names w.pairs table 0 numbered.0 paired (omega (arith, count_length (tree_nodes t) 0 numbered.0 numbered.1, table_length)) n found.0 found.1 in
+        ap (λ (z : List Severity). slice_get z n) are ∙ sets_get t.names w.pairs table 0 numbered.count paired (omega (arith, count_length (tree_nodes t) 0 numbered.count numbered.numbered, table_length)) n found.0 found.1 in
         let value : severity_at filters n ≡ found.0 = ap severity_or kept in
-        (λ q. value ∙ one_severity t.names walk 0 numbered.0 counted severity.Error n found.0 s right q, λ e. subst (λ (z : Severity). IsSeverityAt t n z) (sym value ∙ e) right)
+        (λ q. value ∙ one_severity t.names walk 0 numbered.count counted severity.Error n found.0 s right q, λ e. subst (λ (z : Severity). IsSeverityAt t n z) (sym value ∙ e) right)

@@ -10,3 +10,4 @@ pub mod Walks
 pub mod TreeWalks
 pub mod NodeLaws
 pub mod GradeLaws
+pub mod LinkLaws

@@ -1,6 +1,6 @@
 -- Declarations of the module that need themselves, directly or through others (WGSL, "Declaration and Scope", "Functions"): each use
 -- leads from the declaration that holds it to the one that it means.
-use Rattle.std.specs.Prelude.{◌≡◌, ◌≤◌, ℕ, IsTrue, Bool, true, false, List, ◌∷◌, map, Contains, Option, Some, None, slice_get}
+use Rattle.std.specs.Prelude.{◌≡◌, ◌+◌, ◌<◌, ◌≤◌, ◌^◌, All, ℕ, IsTrue, Bool, true, false, List, ◌∷◌, map, Contains, Option, Some, None, slice_get}
 use Rattle.shade_ast.specs.declared.tree.Decl.{Decl}
 use Rattle.shade_reach.specs.Paths.{Walk}
 use Rattle.shade_reach.specs.Digraph.{HasEdge, JoinsNodes}
@@ -13,6 +13,10 @@ use Rattle.shade_events.specs.Events.{declared_node}
 -- a way leads from a node back to it, of one step or more
 abbrev pub Cyclic : List (ℕ × ℕ) → ℕ → Type 0
 Cyclic links node = (next : ℕ) × (rest : List ℕ) × Walk (HasEdge links) node node (next ∷ rest)
+
+-- the ends of links have numbers below the greatest of 32 bits, so that they can be counted
+abbrev pub AreSmall : List (ℕ × ℕ) → Type 0
+AreSmall links = All (λ link. (link.0 + 1 < 2 ^ 32) × (link.1 + 1 < 2 ^ 32)) links
 
 -- a declaration, by its node and the place of its first token
 abbrev pub head_of : Decl → Head

@@ -1,7 +1,7 @@
 -- How grave a violation is at a node (WGSL, "Diagnostic Filtering"): as the filter for `lanes.uniformity` of the nearest enclosing range
 -- says, and else an error. A directive covers the declarations of the module. An attribute covers the function, block, `if`, `switch`, body of
 -- a `switch`, `loop`, body of a `loop`, continuing part, `for` or `while` before which it stands.
-use Rattle.std.specs.Prelude.{◌≡◌, ◌↔◌, ◌⊎◌, ℕ, Bool, false, ◌&&◌, List, [], ◌∷◌, ◌++◌, map, length, Contains, Option, None, Some, codes, slice_get, if◌then◌else◌}
+use Rattle.std.specs.Prelude.{◌≡◌, ◌<◌, ◌^◌, ◌↔◌, ◌⊎◌, ℕ, Bool, false, ◌&&◌, List, [], ◌∷◌, ◌++◌, map, length, Contains, Option, None, Some, codes, slice_get, if◌then◌else◌}
 use Rattle.std.specs.List.{flat_map}
 use Rattle.shade_base.specs.declared.severity.Severity.{Severity}
 use Rattle.shade_base.specs.declared.severity.Severity.TheVariants as severity
@@ -190,11 +190,13 @@ severity_or (Some s) = s
 abbrev pub severity_at : List Severity → ℕ → Severity
 severity_at filters node = severity_or (slice_get filters node)
 
--- the nodes of a tree have the numbers 0, 1, 2 and so on in postorder, as the parser gives them
-abbrev pub IsNumbered : Tree → Type 0
-IsNumbered t = (count : ℕ) × CountFrom 0 (tree_nodes t) count
+-- the nodes of a tree have the numbers 0, 1, 2 and so on in postorder, as the parser gives them, each a number of 32 bits
+pub record IsNumbered (t : Tree) : Type 0 where
+  pub count : ℕ
+  pub numbered : CountFrom 0 (tree_nodes t) count
+  pub few : count < 2 ^ 32
 
 -- as many severities as there are nodes, each exactly that of its node
 pub record AreSeverities (t : Tree) (filters : List Severity) : Type 0 where
   pub count : length filters ≡ length (tree_nodes t)
-  pub each : IsNumbered t → (node : ℕ) → Contains (tree_nodes t) node → (s : Severity) → IsSeverityAt t node s ↔ (severity_at filters node ≡ s)
+  pub each : (node : ℕ) → Contains (tree_nodes t) node → (s : Severity) → IsSeverityAt t node s ↔ (severity_at filters node ≡ s)

@@ -1,6 +1,7 @@
 -- The answer about a tree: what its names mean and how grave violations are, or the first fault.
-use Rattle.std.specs.Prelude.{◌≡◌, ℕ, ◌⊎◌, List, [], ◌∷◌, Contains, Option, Some, None, Result, Ok, Err, ⊤}
+use Rattle.std.specs.Prelude.{◌≡◌, ℕ, ◌⊎◌, List, [], ◌∷◌, map, Contains, Option, Some, None, Result, Ok, Err, ⊤}
 use Rattle.shade_ast.specs.declared.tree.Tree.{Tree}
+use Rattle.shade_ast.specs.Nodes.{tree_nodes}
 use Rattle.shade_scope.specs.declared.fault.ScopeFault.{ScopeFault}
 use Rattle.shade_scope.specs.declared.fault.ScopeFault.TheVariants as fault
 use Rattle.shade_scope.specs.declared.scoped.Meaning.{Meaning}
@@ -13,7 +14,6 @@ use Rattle.shade_scope.specs.Scopes.{links, resolved, start, told}
 use Rattle.shade_scope.specs.Conflicts.{conflicts}
 use Rattle.shade_scope.specs.Cycles.{IsCycle, heads_of}
 use Rattle.shade_scope.specs.Ranges.{AreSeverities}
-use Rattle.shade_scope.specs.Grades.{blank}
 use Rattle.shade_scope.specs.Faults.{IsLeast}
 
 -- which declarations of the module use which
@@ -38,9 +38,9 @@ node_in _ = []
 abbrev pub event_nodes : List Event → List ℕ
 event_nodes events = flat_map node_in events
 
--- what each use of a name means, by its node
+-- what each use of a name means, by its node, with a place for each node of the tree
 abbrev pub tree_uses : Tree → List (Option Meaning)
-tree_uses t = resolved t.names start (tree_events t) (blank None (tree_events t))
+tree_uses t = resolved t.names start (tree_events t) (map (λ node. None) (tree_nodes t))
 
 pub record IsScoped (t : Tree) (s : Scoped) : Type 0 where
   pub none : (f : ScopeFault) → IsFault t f → ⊥

@@ -1,9 +1,9 @@
 //! Declarations of the module that need themselves.
 
-ghost use Rattle.std.specs.Prelude.{◌≡◌, ◌↔◌, ◌<◌, ◌≤◌, ◌++◌, ◌∷◌, [], List, Contains, IfOk, IfSome, IsTrue, nat_le, nat_lt};
+ghost use Rattle.std.specs.Prelude.{◌≡◌, ◌↔◌, ◌+◌, ◌<◌, ◌≤◌, ◌^◌, ◌++◌, ◌∷◌, [], List, Contains, IfOk, IsTrue, nat_le, nat_lt};
 ghost use Rattle.std.specs.List.{list_all, list_any};
 ghost use Rattle.shade_reach.specs.Digraph.{JoinsNodes};
-ghost use Rattle.shade_scope.specs.Cycles.{Cyclic, IsCycle, IsRanked, NeverRises, head_of, heads_of, is_reached, kept};
+ghost use Rattle.shade_scope.specs.Cycles.{AreSmall, Cyclic, IsCycle, IsRanked, NeverRises, head_of, heads_of, is_reached, kept};
 ghost use Rattle.shade_scope.specs.Faults.{IsLeast};
 
 use crate::fault::ScopeFault;
@@ -43,36 +43,38 @@ fn heads_of(alloc: Global, decls: &[Decl]) -> Result<Items<Head>, AllocError>
 }
 
 /// A count above a node, not below another.
-fn above(count: u32, node: u32) -> Option<u32>
-    ensures low { IfSome result (λ more. count ≤ more) }
-    ensures high { IfSome result (λ more. node < more) }
+fn above(count: u32, node: u32) -> u32
+    requires { node + 1 < 2 ^ 32 }
+    ensures low { count ≤ result }
+    ensures high { node < result }
 {
     if node < count {
-        return Some(count);
+        return count;
     }
-    node.checked_add(1)
+    node + 1
 }
 
-/// A count above both ends of an edge, not below another.
-fn above_both(count: u32, link: (u32, u32)) -> Option<u32>
-    ensures { IfSome result (λ more. (count ≤ more) × (link.0 < more) × (link.1 < more)) }
+/// A count above both ends of a link, not below another.
+fn above_both(count: u32, link: (u32, u32)) -> u32
+    requires from { link.0 + 1 < 2 ^ 32 }
+    requires to { link.1 + 1 < 2 ^ 32 }
+    ensures low { count ≤ result }
+    ensures from { link.0 < result }
+    ensures to { link.1 < result }
 {
-    let more = above(count, link.0)?;
-    above(more, link.1)
+    above(above(count, link.0), link.1)
 }
 
-/// How many nodes a graph with some edges must have, where it can be said.
-fn node_count(links: &[(u32, u32)]) -> Option<u32>
-    ensures { IfSome result (λ nodes. JoinsNodes nodes links.now) }
+/// How many nodes a graph with some edges must have.
+fn node_count(links: &[(u32, u32)]) -> u32
+    requires { AreSmall links.now }
+    ensures { JoinsNodes result links.now }
 {
     let mut nodes = 0;
     for link in links {
-        let Some(more) = above_both(nodes, *link) else {
-            return None;
-        };
-        nodes = more;
+        nodes = above_both(nodes, *link);
     }
-    Some(nodes)
+    nodes
 }
 
 fn is_reached(distances: &[Option<u32>], node: u32) -> bool
@@ -210,12 +212,11 @@ pub fn least_cycle(
     decls: &[Decl],
     links: Vec<(u32, u32)>,
 ) -> Result<Option<ScopeFault>, AllocError>
+    requires { AreSmall links.items }
     ensures { IfOk result (λ least. IsLeast (IsCycle links.items (heads_of decls.now)) least) }
 {
     let heads = heads_of(alloc, decls)?;
-    let Some(nodes) = node_count(&links) else {
-        return Err(AllocError);
-    };
+    let nodes = node_count(&links);
     let graph = Graph::new(alloc, nodes, links)?;
     let ranked = with_ranks(alloc, graph, nodes)?;
     least_of_heads(alloc, &ranked, heads.as_slice())

@@ -2,7 +2,7 @@
 
 ghost use Rattle.std.specs.Prelude.{◌≡◌, IfOk, IsErrAnd};
 ghost use Rattle.shade_scope.specs.Faults.{IsLeast};
-ghost use Rattle.shade_scope.specs.Ranges.{AreSeverities};
+ghost use Rattle.shade_scope.specs.Ranges.{AreSeverities, IsNumbered};
 ghost use Rattle.shade_scope.specs.Resolved.{IsFault, IsResolved, tree_uses};
 
 use crate::conflicts::least_conflict;
@@ -25,6 +25,7 @@ pub struct Examined {
 }
 
 fn examine(alloc: Global, tree: &Tree) -> Result<Examined, AllocError>
+    requires { IsNumbered tree.now }
     ensures least { IfOk result (λ e. IsLeast (IsFault tree.now) e.least) }
     ensures uses { IfOk result (λ e. e.uses ≡ tree_uses tree.now) }
     ensures filters { IfOk result (λ e. AreSeverities tree.now e.filters) }
@@ -52,8 +53,10 @@ fn refuse<H: Drop>(fault: ScopeFault, held: H) -> Result<Scoped, ScopeFault>
 /// Gives the tree with what each use of a name means and how grave violations are at its nodes, or the first of its faults by
 /// their places; at one place the earlier kind comes first. The tree is spent in every case.
 ///
-/// Takes time in the order of the tree, and memory for each node and use; without it the answer is `NoMemory`.
+/// The nodes of the tree are to be numbered in postorder, as `parse` gives them. Takes time in the order of the tree, and memory for
+/// each node and use; without it the answer is `NoMemory`.
 pub fn resolve(alloc: Global, tree: Tree) -> Result<Scoped, ScopeFault>
+    requires { IsNumbered tree }
     ensures { IsResolved tree result }
 {
     match examine(alloc, &tree) {
