@@ -1,5 +1,5 @@
 -- A tree that a text's tokens spell has fewer nodes than 2^32.
-use Rattle.std.proofs.Common.{◌≡◌, ℕ, ◌≤◌, List, length, map, arith}
+use Rattle.std.proofs.Common.{ℕ, ◌≤◌, List, length, arith}
 use Rattle.std.proofs.lemmas.List.{length-map}
 use Rattle.std.specs.Str.{IsUtf8}
 use Rattle.shade_lex.specs.declared.token.Token.{Token}
