@@ -61,14 +61,14 @@ taken P (y ∷ xs) zero (suc n) x lt at all = let same : y ≡ x = cc in subst P
 taken P (y ∷ xs) (suc i) (suc n) x lt at all = taken P xs i n x (omega (arith, lt)) at (All-tail P y (take n xs) all)
 
 -- two places, of which each is behind all that have something
-one_place : {X : Type 0} (P : X → Type 0) (xs : List X) (i j : ℕ) (x y : X) → slice_get xs i ≡ Some x → slice_get xs j ≡ Some y → All P (take i xs) → All P (take j xs) → (P x → ⊥) → (P y → ⊥) → i ≡ j
+pub one_place : {X : Type 0} (P : X → Type 0) (xs : List X) (i j : ℕ) (x y : X) → slice_get xs i ≡ Some x → slice_get xs j ≡ Some y → All P (take i xs) → All P (take j xs) → (P x → ⊥) → (P y → ⊥) → i ≡ j
 one_place P xs i j x y at other before before_other has has_other =
     elim (cases_lt i j) [
       | inl lt ↦ absurd (has (taken P xs i j x lt at before_other))
       | inr le ↦ elim (cases_lt j i) [ inl lt ↦ absurd (has_other (taken P xs j i y lt other before)) | inr ge ↦ omega (arith, le, ge) ]
     ]
 
-same_at : {X : Type 0} (xs : List X) (i j : ℕ) (x y : X) → slice_get xs i ≡ Some x → slice_get xs j ≡ Some y → i ≡ j → x ≡ y
+pub same_at : {X : Type 0} (xs : List X) (i j : ℕ) (x y : X) → slice_get xs i ≡ Some x → slice_get xs j ≡ Some y → i ≡ j → x ≡ y
 same_at xs i j x y at other same = let e : Some x ≡ Some y = sym at ∙ (ap (slice_get xs) same ∙ other) in some_one e
   where
     some_one : {X : Type 0} {x y : X} → Some x ≡ Some y → x ≡ y

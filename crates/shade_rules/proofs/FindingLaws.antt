@@ -108,7 +108,7 @@ set_seam : {A : Type 0} (xs : List A) (y : A) (ys : List A) (z : A) → slice_se
 set_seam [] y ys z = refl
 set_seam (x ∷ xs) y ys z = ap (λ l. x ∷ l) (set_seam xs y ys z)
 
-map_set : {A B : Type 0} (f : A → B) (xs : List A) (i : ℕ) (z : A) → map f (slice_set xs i z) ≡ slice_set (map f xs) i (f z)
+pub map_set : {A B : Type 0} (f : A → B) (xs : List A) (i : ℕ) (z : A) → map f (slice_set xs i z) ≡ slice_set (map f xs) i (f z)
 map_set f [] i z = refl
 map_set f (x ∷ xs) zero z = refl
 map_set f (x ∷ xs) (suc i) z = ap (λ l. f x ∷ l) (map_set f xs i z)
