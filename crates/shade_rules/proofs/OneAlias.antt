@@ -1,21 +1,19 @@
 -- There is one first alias of a module at most.
-use Rattle.std.proofs.Common.{◌≡◌, sym, ap, subst, ◌∙◌, ℕ, ◌<◌, ◌⊎◌, inl, inr, List, get_or, length, arith}
-use Rattle.std.specs.Prelude.{All, slice_get}
+use Rattle.std.proofs.Common.{◌≡◌, sym, ap, subst, ◌∙◌, ℕ, ◌<◌, ◌⊎◌, inl, inr, List, length, arith}
 use Rattle.std.proofs.lemmas.Bool.{cases_lt}
 use Rattle.std.proofs.lemmas.List.Elements.{All-get_or}
 use Rattle.std.proofs.lemmas.Option.{slice_get_within, get_or_from_slice_get}
-use Rattle.shade_base.specs.declared.place.Place.{Place}
 use Rattle.shade_core.specs.declared.statement.Argument.{Argument}
 use Rattle.shade_core.specs.declared.module.CoreFunction.{CoreFunction}
 use Rattle.shade_core.specs.Code.{code_of}
 use Rattle.shade_core.specs.Places.{list_places}
-use Rattle.shade_core.specs.Standing.{Standing, Head, calls, statements}
+use Rattle.shade_core.specs.Standing.{Standing, calls, statements}
 use Rattle.shade_rules.specs.declared.aliasing.AliasOther.{AliasOther}
 use Rattle.shade_rules.specs.declared.aliasing.AliasOther.TheVariants as other
 use Rattle.shade_rules.specs.declared.aliasing.AliasFault.{AliasFault}
 use Rattle.shade_rules.specs.declared.aliasing.AliasFault.TheVariants.{Alias}
 use Rattle.shade_rules.specs.declared.usage.Seen.{Seen}
-use Rattle.shade_rules.specs.Aliases.{Conflict, OtherBefore, IsFirstOf, HasNoAlias, AreFree, IsFirstAliasIn, IsFirstAlias}
+use Rattle.shade_rules.specs.Aliases.{Conflict, OtherBefore, IsFirstOf, HasNoAlias, AreFree, IsFirstAliasIn}
 use Rattle.shade_rules.specs.Laws.{OneAlias}
 use Rattle.shade_rules.proofs.FaultLaws.{one_place, same_at}
 

@@ -1,21 +1,20 @@
 -- Rows of usages, function by function, each behind those that it calls.
-use Rattle.std.proofs.Common.{◌≡◌, refl, sym, ap, subst, ◌∙◌, ℕ, zero, suc, ◌+◌, ◌<◌, ◌≤◌, Bool, true, false, List, [], ◌∷◌, ◌++◌, length, get_or, map, Option, None, Some, inl, inr, arith}
-use Rattle.std.specs.Prelude.{◌⊎◌, ◌↔◌, Contains, slice_get, slice_set, min}
+use Rattle.std.proofs.Common.{◌≡◌, refl, sym, ap, subst, ◌∙◌, ℕ, zero, suc, ◌+◌, ◌<◌, ◌≤◌, List, [], ◌∷◌, ◌++◌, length, get_or, map, Some, inl, inr, arith}
+use Rattle.std.specs.Prelude.{◌⊎◌, ◌↔◌, Contains, slice_get, slice_set}
 use Rattle.std.specs.Option.{option_map}
 use Rattle.std.proofs.lemmas.Bool.{cases_lt}
 use Rattle.std.proofs.lemmas.List.{length-map, length-append, map-append}
 use Rattle.std.proofs.lemmas.List.Elements.{Contains-append_left, Contains-append_right, Contains-append_cases}
-use Rattle.std.proofs.lemmas.Option.{slice_get-map, slice_get-get_or, slice_get_within}
+use Rattle.std.proofs.lemmas.Option.{slice_get-map, slice_get-get_or}
 use Rattle.shade_core.specs.declared.statement.Argument.{Argument}
 use Rattle.shade_core.specs.declared.module.CoreFunction.{CoreFunction}
 use Rattle.shade_core.specs.Code.{Code, done, plain, jump, call, branch, switch, loop, no_part, part, code_of}
-use Rattle.shade_core.specs.Standing.{Standing, Head, does, jumps, calls, branches, switches, loops, cases_of, standing, statements}
-use Rattle.shade_chains.specs.declared.events.Event.{Event}
+use Rattle.shade_core.specs.Standing.{Standing, does, jumps, calls, branches, switches, loops, cases_of, standing, statements}
 use Rattle.shade_chains.specs.Events.{deeper, event, events, plain_events}
 use Rattle.shade_chains.specs.Orders.{RowCalls, IsOrder}
 use Rattle.shade_chains.specs.Tops.{rows_in}
 use Rattle.shade_rules.specs.declared.usage.Usage.{Usage}
-use Rattle.shade_rules.specs.Gathered.{Rows, row_by, row_at, function_usages, IsUnknown, AreUsages}
+use Rattle.shade_rules.specs.Gathered.{Rows, row_at, function_usages, IsUnknown, AreUsages}
 use Rattle.shade_rules.specs.Usages.{StandsIn, Uses}
 use Rattle.shade_rules.proofs.UsageLaws as laws
 use Rattle.shade_rules.proofs.UsageLaws.{none_in, behind_of, first_of, uses_within, function_sound, function_complete}

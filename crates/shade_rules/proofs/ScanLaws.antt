@@ -1,10 +1,9 @@
 -- What is looked for in a call is found, and is what the rule on aliases says.
-use Rattle.std.proofs.Common.{◌≡◌, refl, sym, ap, subst, ◌∙◌, ℕ, zero, suc, ◌+◌, ◌<◌, ◌≤◌, ◌==◌, Bool, true, false, ◌&&◌, ◌||◌, not, List, [], ◌∷◌, length, get_or, take, Option, None, Some, inl, inr, arith}
-use Rattle.std.specs.Prelude.{◌⊎◌, ◌↔◌, nat_lt, Contains, slice_get, IfSome, IfNone, if◌then◌else◌}
-use Rattle.std.specs.List.{list_any}
+use Rattle.std.proofs.Common.{◌≡◌, refl, sym, ap, subst, ◌∙◌, ℕ, ◌+◌, ◌<◌, ◌≤◌, Bool, true, false, ◌&&◌, ◌||◌, List, [], ◌∷◌, length, get_or, Option, None, Some, inl, inr, arith}
+use Rattle.std.specs.Prelude.{◌⊎◌, nat_lt, Contains, slice_get, if◌then◌else◌}
 use Rattle.std.proofs.lemmas.Bool.{eqb-true, eq-eqb, cases_lt}
 use Rattle.std.proofs.lemmas.Bool.Decides.{nat_tests}
-use Rattle.std.proofs.lemmas.Option.{slice_get-get_or, slice_get_within, get_or_from_slice_get}
+use Rattle.std.proofs.lemmas.Option.{slice_get-get_or, slice_get_within}
 use Rattle.shade_core.specs.declared.statement.Operand.{Operand}
 use Rattle.shade_core.specs.declared.statement.Argument.{Argument}
 use Rattle.shade_core.specs.declared.statement.Argument.TheVariants.{Plain, Pointer}
@@ -20,7 +19,7 @@ use Rattle.shade_rules.specs.declared.usage.Usage.{Usage}
 use Rattle.shade_rules.specs.Aliases.{Touches, Conflict, Clash, argument, variable, OtherBefore, IsFirstOf, HasNone}
 use Rattle.shade_rules.specs.Gathered.{Rows, row_at, AreUsages}
 use Rattle.shade_rules.specs.Scans.{same_seen, same_flag, is_usage, has, touches, conflicts, Known, same_base, is_alias, own_variable, is_later, IsLater, IsFirstLater, IsFirstFor, IsFirstAmong}
-use Rattle.shade_rules.specs.Usages.{usage, Uses}
+use Rattle.shade_rules.specs.Usages.{usage}
 use Rattle.shade_rules.proofs.UsageLaws.{none_in, cases_of, behind_of, first_of}
 
 false_true : {A : Type 0} → false ≡ true → A

@@ -1,25 +1,22 @@
 -- What functions use is what is gathered of their statements, by what is known of their callees.
-use Rattle.std.proofs.Common.{◌≡◌, refl, sym, ap, subst, ◌∙◌, ℕ, zero, suc, ◌+◌, ◌<◌, ◌==◌, Bool, true, false, List, [], ◌∷◌, ◌++◌, length, map, get_or, drop, Option, None, Some, inl, inr, arith, append_assoc}
+use Rattle.std.proofs.Common.{◌≡◌, refl, sym, ap, subst, ◌∙◌, ℕ, zero, suc, ◌+◌, ◌<◌, Bool, true, false, List, [], ◌∷◌, ◌++◌, length, get_or, drop, Option, None, Some, inl, inr, arith, append_assoc}
 use Rattle.std.specs.Prelude.{◌⊎◌, ◌↔◌, if◌then◌else◌, Contains, slice_get, slice_index_or}
 use Rattle.std.specs.List.{flat_map}
 use Rattle.std.proofs.lemmas.Bool.{eqb-true, eq-eqb}
 use Rattle.std.proofs.lemmas.List.Elements.{Contains-append_left, Contains-append_right, Contains-append_cases}
 use Rattle.std.proofs.lemmas.Option.{slice_get_within, slice_get-get_or}
-use Rattle.shade_values.specs.declared.op.Op.{Op}
-use Rattle.shade_core.specs.declared.statement.Operand.{Operand}
 use Rattle.shade_core.specs.declared.statement.Argument.{Argument}
 use Rattle.shade_core.specs.declared.statement.Argument.TheVariants as argument
 use Rattle.shade_core.specs.declared.statement.Base.{Base}
-use Rattle.shade_core.specs.declared.statement.View.{View}
 use Rattle.shade_core.specs.declared.module.CoreFunction.{CoreFunction}
-use Rattle.shade_core.specs.Code.{Plain, code_of}
+use Rattle.shade_core.specs.Code.{code_of}
 use Rattle.shade_core.specs.Standing.{Standing, Head, does, jumps, calls, branches, switches, loops, standing, statements}
 use Rattle.shade_core.proofs.CodeLaws.{drop_here}
 use Rattle.shade_rules.specs.declared.usage.Seen.{Seen}
 use Rattle.shade_rules.specs.declared.usage.Seen.TheVariants.{Parameter, Variable}
 use Rattle.shade_rules.specs.declared.usage.Usage.{Usage}
-use Rattle.shade_rules.specs.Usages.{usage, seen_of, usage_by, usage_at, act_usages, StandsIn, Uses, itself, handed, below}
-use Rattle.shade_rules.specs.Gathered.{Rows, row_by, row_at, is_parameter, handed_one, argument_usages, handed_from, variable_by, variable_one, call_usages, head_usages, standing_usages, function_usages}
+use Rattle.shade_rules.specs.Usages.{usage, seen_of, usage_by, usage_at, StandsIn, Uses, itself, handed, below}
+use Rattle.shade_rules.specs.Gathered.{Rows, row_at, is_parameter, handed_one, argument_usages, handed_from, variable_by, variable_one, call_usages, head_usages, standing_usages, function_usages}
 
 -- ---- lists
 

@@ -1,7 +1,6 @@
 -- On the way to the proof: what is found in a call, a list of statements and a function, by what is known of all functions.
-use Rattle.std.specs.Prelude.{◌≡◌, ℕ, List, take, All, Option, None, Some, slice_get, IfSome, IfNone}
+use Rattle.std.specs.Prelude.{◌≡◌, List, take, All, Option, None, Some, slice_get, IfSome, IfNone}
 use Rattle.shade_core.specs.declared.module.CoreFunction.{CoreFunction}
-use Rattle.shade_core.specs.declared.statement.Argument.{Argument}
 use Rattle.shade_core.specs.Standing.{Standing, Head, calls}
 use Rattle.shade_rules.specs.declared.aliasing.AliasPair.{AliasPair}
 use Rattle.shade_rules.specs.declared.calls.CallAlias.{CallAlias}

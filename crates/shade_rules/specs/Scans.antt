@@ -5,7 +5,6 @@ use Rattle.shade_core.specs.declared.statement.Argument.{Argument}
 use Rattle.shade_core.specs.declared.statement.Argument.TheVariants.{Pointer}
 use Rattle.shade_core.specs.declared.statement.Base.{Base}
 use Rattle.shade_core.specs.declared.statement.Base.TheVariants.{Local, Module, Pointee}
-use Rattle.shade_core.specs.declared.statement.View.{View}
 use Rattle.shade_rules.specs.declared.aliasing.AliasOther.{AliasOther}
 use Rattle.shade_rules.specs.declared.aliasing.AliasOther.TheVariants as other
 use Rattle.shade_rules.specs.declared.aliasing.AliasPair.{AliasPair}

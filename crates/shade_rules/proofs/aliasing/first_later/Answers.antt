@@ -1,5 +1,4 @@
-use Rattle.std.proofs.Common.{◌≡◌, sym, ap, ◌∙◌, ◌+◌, Some, arith}
-use Rattle.std.specs.Prelude.{slice_get}
+use Rattle.std.proofs.Common.{sym, ap, ◌∙◌, ◌+◌, arith}
 use Rattle.shade_rules.proofs.ScanLaws.{item_at, none_next, no_later}
 use Rattle.shade_rules.proofs.aliasing.first_later.Goals as goal
 
