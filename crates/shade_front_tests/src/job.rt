@@ -2,7 +2,10 @@
 
 use shade_base::Place;
 use shade_core::{CoreFunction, CoreModule, Root};
-use shade_job::{Job, JobFault, JobRefusal, Schedule, read_job, read_steps};
+use shade_job::{
+    Job, JobFault, JobRefusal, Schedule, mix, pick_by_list, pick_by_seed, pick_in_turn, read_job,
+    read_steps,
+};
 use shade_values::{Access, Name, Scalar, ShadeType, Space, TypeId, TypeTable};
 use sqlite_items::Items;
 use std::alloc::{AllocError, Global};
@@ -362,5 +365,188 @@ fn rules_on_jobs(rt: HostRuntime) -> Result<(), Fail> {
     for text in TEXTS {
         assert!(rt; breaks(alloc, &module, text, "", 1));
     }
+    Ok(())
+}
+
+/// A job whose version lies in so many lists.
+fn nested(alloc: Global, lists: u32) -> Result<String, AllocError> {
+    let mut out = String::from_str(alloc, "{\"version\":")?;
+    'opened: for _at in 0..lists {
+        out.push_str("[")?;
+    }
+    'closed: for _at in 0..lists {
+        out.push_str("]")?;
+    }
+    out.push_str("}")?;
+    Ok(out)
+}
+
+/// A job that every rule takes, with blanks behind it up to a length.
+fn padded(alloc: Global, length: usize) -> Result<String, AllocError> {
+    let mut out = job_with(alloc, MEMBERS, "steps", "10")?;
+    'blanks: for _at in out.len()..length {
+        out.push_str(" ")?;
+    }
+    Ok(out)
+}
+
+/// A list of so many zeros, at least one, between two texts.
+fn zeros(alloc: Global, before: &str, count: u32, after: &str) -> Result<String, AllocError> {
+    let mut out = String::from_str(alloc, before)?;
+    out.push_str("[0")?;
+    'items: for _at in 1..count {
+        out.push_str(",0")?;
+    }
+    out.push_str("]")?;
+    out.push_str(after)?;
+    Ok(out)
+}
+
+/// Members with a list of so many zeros between two texts; the pointer and the number of the rule that the job breaks.
+const LONG: &[(&str, &str, u32, &str, &str, u8)] = &[
+    ("schedule", "{\"picks\":", 65_536, "}", "", 0),
+    ("schedule", "{\"picks\":", 65_537, "}", "/schedule/picks", 8),
+    (
+        "buffers",
+        "{\"pair\":[1,2],\"data\":",
+        1_048_574,
+        "}",
+        "",
+        0,
+    ),
+    (
+        "buffers",
+        "{\"pair\":[1,2],\"data\":",
+        1_048_575,
+        "}",
+        "/buffers",
+        7,
+    ),
+];
+
+#[test]
+fn limits_of_lists(rt: HostRuntime) -> Result<(), Fail> {
+    let alloc = rt.alloc();
+    let module = shader(alloc)?;
+    for (member, before, count, after, pointer, number) in LONG {
+        let text = zeros(alloc, before, *count, after)?;
+        let job = job_with(alloc, MEMBERS, member, text.as_str())?;
+        assert!(rt;
+            breaks(alloc, &module, job.as_bytes(), pointer, *number),
+            "{count}"
+        );
+    }
+    Ok(())
+}
+
+/// Lists that the version of a job lies in, which itself is one more level, each with the pointer and the rule that it breaks.
+const DEPTHS: &[(u32, &str, u8)] = &[(126, "/version", 2), (127, "", 1)];
+
+/// Lengths of a job, each with the rule that it breaks.
+const LENGTHS: &[(usize, u8)] = &[(16_777_216, 0), (16_777_217, 1)];
+
+#[test]
+fn limits_of_texts(rt: HostRuntime) -> Result<(), Fail> {
+    let alloc = rt.alloc();
+    let module = shader(alloc)?;
+    for (lists, pointer, number) in DEPTHS {
+        let job = nested(alloc, *lists)?;
+        assert!(rt;
+            breaks(alloc, &module, job.as_bytes(), pointer, *number),
+            "{lists}"
+        );
+    }
+    for (length, number) in LENGTHS {
+        let job = padded(alloc, *length)?;
+        assert!(rt;
+            breaks(alloc, &module, job.as_bytes(), "", *number),
+            "{length}"
+        );
+    }
+    Ok(())
+}
+
+/// Schedules of jobs of version 2, and the lists that they are.
+const LISTS: &[(&str, &[u32])] = &[
+    ("{\"runs\":[]}", &[]),
+    ("{\"runs\":[[3,2],[0,1],[3,1]]}", &[3, 3, 0, 3]),
+    ("{\"list\":[0,0,3]}", &[0, 0, 3]),
+];
+
+fn is_list(schedule: &Schedule, steps: &[u32]) -> bool {
+    match schedule {
+        Schedule::List(list) => list.as_slice() == steps,
+        _ => false,
+    }
+}
+
+/// Whether the schedule of a job is this list, whose length is the limit of steps.
+fn lists(alloc: Global, module: &CoreModule, bytes: &[u8], steps: &[u32]) -> bool {
+    match read_job(alloc, bytes, module) {
+        Ok(job) => is_list(&job.schedule, steps) && job.steps == steps.len() as u64,
+        Err(_) => false,
+    }
+}
+
+#[test]
+fn lists_of_steps(rt: HostRuntime) -> Result<(), Fail> {
+    let alloc = rt.alloc();
+    let module = shader(alloc)?;
+    for (text, steps) in LISTS {
+        let job = job_with(alloc, SECOND, "schedule", text)?;
+        assert!(rt; lists(alloc, &module, job.as_bytes(), steps), "{text}");
+    }
+    Ok(())
+}
+
+fn has_words(words: &Items<Items<u32>>, root: usize, want: &[u32]) -> bool {
+    match words.get(root) {
+        Some(list) => list.as_slice() == want,
+        None => false,
+    }
+}
+
+/// Whether a job has what its text says.
+fn is_whole(job: &Job) -> bool {
+    job.inputs.entry == 1
+        && job.inputs.groups == [2, 3, 1]
+        && job.inputs.group == [1, 2, 0]
+        && has_words(&job.inputs.words, 0, &[])
+        && has_words(&job.inputs.words, 1, &[2_147_483_648, 4_294_967_295])
+        && has_words(&job.inputs.words, 2, &[4_294_967_295])
+        && job.steps == 10
+}
+
+#[test]
+fn parts_of_a_job(rt: HostRuntime) -> Result<(), Fail> {
+    let alloc = rt.alloc();
+    let module = shader(alloc)?;
+    let words = "{\"pair\":[-2147483648,4294967295],\"data\":[-1]}";
+    let text = job_with(alloc, MEMBERS, "buffers", words)?;
+    match read_job(alloc, text.as_bytes(), &module) {
+        Ok(job) => assert!(rt; is_whole(&job)),
+        Err(_) => assert!(rt; false),
+    }
+    Ok(())
+}
+
+#[test]
+fn picks(rt: HostRuntime) -> Result<(), Fail> {
+    assert_eq!(rt; Schedule::Lanes.pick(7, 5), 0);
+    assert_eq!(rt; Schedule::Round.pick(7, 5), 2);
+    assert_eq!(rt; Schedule::Seed(1).pick(0, 64), 22);
+    assert_eq!(rt; Schedule::Seed(1).pick(1, 64), 44);
+    assert_eq!(rt; Schedule::Seed(u64::MAX).pick(1, 256), 191);
+    assert_eq!(rt; pick_in_turn(7, 5), 2);
+    assert_eq!(rt; mix(7, 3), 1_134_330_529);
+    assert_eq!(rt; pick_by_seed(7, 3, 5), 4);
+    assert_eq!(rt; pick_by_list(&[5, 0, 11], 4, 4), 0);
+    assert_eq!(rt; pick_by_list(&[5, 0, 11], 5, 4), 3);
+    let mut list = Items::new(rt.alloc());
+    list.push(5)?;
+    list.push(0)?;
+    list.push(11)?;
+    let schedule = Schedule::Picks(list);
+    assert_eq!(rt; schedule.pick(5, 4), 3);
     Ok(())
 }
