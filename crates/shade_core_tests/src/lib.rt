@@ -20,3 +20,5 @@ mod shape;
 mod values;
 #[cfg(test)]
 mod verdict;
+#[cfg(test)]
+mod words;

@@ -269,7 +269,7 @@ fn are_known(members: &[(Name, TypeId)], count: u32) -> bool
 }
 
 /// Adds a struct of two members, where the table has their types.
-fn add_pair(
+pub(crate) fn add_pair(
     alloc: Global,
     types: &mut TypeTable,
     name: &str,
