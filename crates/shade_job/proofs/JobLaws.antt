@@ -5,7 +5,8 @@ use Rattle.shade_core.specs.declared.module.CoreModule.{CoreModule}
 use Rattle.shade_job.specs.declared.policies.Schedule.{Schedule}
 use Rattle.shade_job.specs.declared.refusal.JobRule.TheVariants as rule
 use Rattle.shade_job.specs.declared.refusal.JobRefusal.{JobRefusal}
-use Rattle.shade_job.specs.Refusals.{Refuses, RefusesBy}
+use Rattle.shade_job.specs.Refusals.{Refuses}
+use Rattle.shade_job.specs.ByRule.{RefusesBy}
 use Rattle.shade_job.specs.Rules.{VersionIs, VersionFails, EntryIs, EntryFails, lanes_at, GroupsAre, GroupsFail, GroupIs, GroupFails, StepsAre, StepsFail, is_known, other_of}
 use Rattle.shade_job.specs.Buffers.{BuffersAre, BuffersFail, WordsAre, WordsFail}
 use Rattle.shade_job.specs.Schedules.{ScheduleIs, ScheduleFails}

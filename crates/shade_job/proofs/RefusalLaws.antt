@@ -4,7 +4,8 @@ use Rattle.serde_json.specs.Data.{Data}
 use Rattle.shade_job.specs.declared.refusal.JobRule.{JobRule}
 use Rattle.shade_job.specs.declared.refusal.JobRefusal.{JobRefusal}
 use Rattle.shade_job.specs.declared.refusal.JobRefusal.TheVariants.{Rule, NoMemory}
-use Rattle.shade_job.specs.Refusals.{Refuses, RefusesBy}
+use Rattle.shade_job.specs.Refusals.{Refuses}
+use Rattle.shade_job.specs.ByRule.{RefusesBy}
 
 -- a refusal for one reason is one for another
 pub refuses_for : (F G : List ℕ → JobRule → Type 0) (refusal : JobRefusal) → ((p : List ℕ) (r : JobRule) → F p r → G p r) → Refuses F refusal → Refuses G refusal

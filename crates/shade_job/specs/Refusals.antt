@@ -22,7 +22,3 @@ rule_number rule.OtherMember = 10
 abbrev pub Refuses : (List ℕ → JobRule → Type 0) → JobRefusal → Type 0
 Refuses Fails (Rule pointer broken) = Fails pointer broken
 Refuses Fails NoMemory = Unit {0}
-
--- the same for one rule
-abbrev pub RefusesBy : JobRule → (List ℕ → Type 0) → JobRefusal → Type 0
-RefusesBy broken Fails refusal = Refuses (λ pointer other. (other ≡ broken) × Fails pointer) refusal

@@ -7,10 +7,7 @@ use Rattle.shade_job.specs.declared.numbers.NumberRange.{NumberRange}
 use Rattle.shade_job.specs.declared.numbers.NumberRange.TheVariants.{Between, Below}
 use Rattle.shade_job.specs.declared.policies.Schedule.{Schedule}
 use Rattle.shade_job.specs.declared.schedules.Run.{Run}
-use Rattle.shade_job.specs.declared.schedules.ScheduleForm.{ScheduleForm}
-use Rattle.shade_job.specs.declared.schedules.ScheduleForm.TheVariants as asks
 use Rattle.shade_job.specs.declared.policies.Schedule.TheVariants as schedule
-use Rattle.serde_json.specs.View.{view}
 use Rattle.shade_job.specs.Pointers.{item_pointer}
 use Rattle.shade_job.specs.Json.{natural, items_in, sized, by_range, by_ranges, IsFirstNone, PartsAre, PartsFail, NumbersFail}
 use Rattle.shade_job.specs.Rules.{MemberIs, MemberFails}
@@ -23,15 +20,6 @@ pub data Form : Type 0 where
   by_picks : Data → Form
   by_list : Data → Form
   by_runs : Data → Form
-
--- the same, as the reader holds it
-abbrev pub asked_for : ScheduleForm → Form
-asked_for asks.Lanes = by_lanes
-asked_for asks.Round = by_round
-asked_for (asks.Seed value) = by_seed (view value.now)
-asked_for (asks.Picks value) = by_picks (view value.now)
-asked_for (asks.List value) = by_list (view value.now)
-asked_for (asks.Runs value) = by_runs (view value.now)
 
 abbrev pub form_by_text : List ℕ → Option Form
 form_by_text text = if bytes_eq text (codes "lanes") then Some by_lanes else if bytes_eq text (codes "round") then Some by_round else None

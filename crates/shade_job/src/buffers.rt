@@ -8,7 +8,7 @@ ghost use Rattle.shade_values.specs.Layouts.{layout};
 ghost use Rattle.shade_mem.specs.Fitting.{is_buffer, least_words};
 ghost use Rattle.shade_job.specs.Json.{by_range, number_of, IsFirstNone};
 ghost use Rattle.shade_job.specs.Pointers.{member_pointer};
-ghost use Rattle.shade_job.specs.Refusals.{RefusesBy};
+ghost use Rattle.shade_job.specs.ByRule.{RefusesBy};
 ghost use Rattle.shade_job.specs.Rules.{other_in};
 ghost use Rattle.shade_job.specs.Buffers.{is_named, names_buffer, member_named, is_given, are_given, BuffersAre, BuffersFail, NamesFail, has_words, buffer_items, are_words, IsBuffer, BufferFails, AreBuffers, FirstBuffer, words_in, stated_words, root_words, words_of, word_count, WordsAre, WordsFail};
 

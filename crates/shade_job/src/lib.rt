@@ -28,7 +28,7 @@ use std::alloc::{AllocError, Global};
 pub const MOST_BYTES: usize = 16_777_216;
 
 /// The greatest number of steps of a run.
-pub const MOST_STEPS: usize = 10_000_000;
+pub const MOST_STEPS: u32 = 10_000_000;
 
 /// Why some bytes state no job.
 #[derive(Clone, Copy, Debug, PartialEq, Eq)]
@@ -97,7 +97,8 @@ fn add(steps: &mut Vec<u32>, step: u32) -> Result<(), AllocError>
     Ok(())
 }
 
-/// The steps that a job of a workgroup of so many lanes states.
+/// The steps that a job of a workgroup of so many lanes states. Its form is broken where it has more than 16,777,216 bytes, a line is not the
+/// number of a lane with a line break behind it, or there are more than 10,000,000 lines; `NoMemory` comes where memory for the steps is wanting.
 pub fn read_steps(alloc: Global, bytes: &[u8], lanes: u32) -> Result<Vec<u32>, JobFault>
     ensures { MatchResult result (λ steps. States lanes bytes.now steps.items) (λ fault. Faults lanes bytes.now fault) }
 {
@@ -110,7 +111,7 @@ pub fn read_steps(alloc: Global, bytes: &[u8], lanes: u32) -> Result<Vec<u32>, J
         let Some((number, after)) = first_line(rest, lanes) else {
             return Err(JobFault::Form);
         };
-        if steps.len() == MOST_STEPS {
+        if steps.len() == MOST_STEPS as usize {
             return Err(JobFault::Form);
         }
         add(&mut steps, number)?;

@@ -4,7 +4,7 @@ ghost use Rattle.std.specs.Prelude.{◌≡◌, IfOk, ◌==◌, map, length, nat_
 ghost use Rattle.serde_json.specs.View.{view};
 ghost use Rattle.shade_values.specs.Numbers.{word};
 ghost use Rattle.shade_job.specs.Json.{whole, between, below, word_in, number_of, items_in, sized, by_range, by_ranges, ItemFails, NumbersAre, NumbersFail};
-ghost use Rattle.shade_job.specs.Refusals.{RefusesBy};
+ghost use Rattle.shade_job.specs.ByRule.{RefusesBy};
 ghost use Rattle.shade_job.specs.Rules.{NumberFails};
 
 use crate::refusal::{JobRefusal, JobRule, item_refusal, refusal};

@@ -2,7 +2,8 @@
 
 ghost use Rattle.std.specs.Prelude.{◌≡◌, ◌++◌, ◌∷◌, [], IfOk, MatchResult};
 ghost use Rattle.shade_job.specs.Pointers.{escaped, escaped_byte, item_pointer, member_pointer};
-ghost use Rattle.shade_job.specs.Refusals.{RefusesBy, rule_number};
+ghost use Rattle.shade_job.specs.Refusals.{rule_number};
+ghost use Rattle.shade_job.specs.ByRule.{RefusesBy};
 ghost use Rattle.shade_job.specs.declared.refusal.JobRefusal.TheVariants.{NoMemory};
 
 use shade_values::Name;

@@ -6,22 +6,17 @@ ghost use Rattle.serde_json.specs.View.{view};
 ghost use Rattle.shade_core.specs.Limits.{lanes_of};
 ghost use Rattle.shade_job.specs.Json.{number_of};
 ghost use Rattle.shade_job.specs.Pointers.{member_pointer};
-ghost use Rattle.shade_job.specs.Refusals.{RefusesBy};
+ghost use Rattle.shade_job.specs.ByRule.{RefusesBy};
 ghost use Rattle.shade_job.specs.Rules.{IsText, FormFails, VersionIs, VersionFails, EntryIs, EntryFails, entry_named, is_entry, entry_of, lanes_at, GroupsAre, GroupsFail, GroupIs, GroupFails, parts_of, limits, MemberIs, MemberFails, NumberFails, StepsAre, StepsFail, is_known, other_of};
 
 use crate::numbers::{NumberRange, read_number, read_numbers};
 use crate::others::other_member;
 use crate::policies::Schedule;
 use crate::refusal::{JobRefusal, JobRule, member_refusal, refusal};
+use crate::{MOST_BYTES, MOST_STEPS};
 use serde_json::{Map, Value};
 use shade_core::{CoreFunction, CoreModule};
 use std::alloc::Global;
-
-/// The greatest number of bytes of a job.
-const MOST_BYTES: usize = 16_777_216;
-
-/// The greatest number of steps of a run.
-const MOST_STEPS: u32 = 10_000_000;
 
 /// The value of a JSON text that is not too long.
 pub(crate) fn parse(alloc: Global, bytes: &[u8]) -> Result<Value, JobRefusal>

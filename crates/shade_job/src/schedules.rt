@@ -4,9 +4,11 @@ ghost use Rattle.std.specs.Prelude.{◌≡◌, ◌≤◌, ◌<◌, ◌++◌, ◌
 ghost use Rattle.serde_json.specs.View.{view, members_view};
 ghost use Rattle.shade_job.specs.Json.{NumbersFail};
 ghost use Rattle.shade_job.specs.Pointers.{item_pointer};
-ghost use Rattle.shade_job.specs.Refusals.{RefusesBy};
-ghost use Rattle.shade_job.specs.Schedules.{asked_for, form_by_text, form_by_member, form_by_members, form_of, run_of, runs_of, run_ranges, steps_of, step_count, RunFails, RunsAre, RunsFail, by_seed, by_picks, by_list, by_runs, FormIs, FormFails, ScheduleIs, ScheduleFails};
+ghost use Rattle.shade_job.specs.ByRule.{RefusesBy};
+ghost use Rattle.shade_job.specs.Schedules.{form_by_text, form_by_member, form_by_members, form_of, run_of, runs_of, run_ranges, steps_of, step_count, RunFails, RunsAre, RunsFail, by_seed, by_picks, by_list, by_runs, FormIs, FormFails, ScheduleIs, ScheduleFails};
+ghost use Rattle.shade_job.specs.Asked.{asked_for};
 
+use crate::MOST_STEPS;
 use crate::numbers::{NumberRange, items_between, items_exactly, items_of, number_in, numbers_of};
 use crate::policies::{Schedule, StepList};
 use crate::refusal::{JobRefusal, JobRule, item_pointer, item_refusal, refusal};
@@ -14,9 +16,6 @@ use crate::rules::member;
 use serde_json::{Map, Value};
 use sqlite_items::Items;
 use std::alloc::{AllocError, Global};
-
-/// The greatest number of steps of a run.
-const MOST_STEPS: u32 = 10_000_000;
 
 /// The greatest number of picks.
 const MOST_PICKS: usize = 65_536;

@@ -1,7 +1,7 @@
 use Rattle.std.proofs.Common.{ℕ, subst}
 use Rattle.serde_json.specs.View.{view, members_view}
 use Rattle.shade_job.specs.declared.refusal.JobRule.TheVariants as rule
-use Rattle.shade_job.specs.Refusals.{RefusesBy}
+use Rattle.shade_job.specs.ByRule.{RefusesBy}
 use Rattle.shade_job.specs.Schedules.{ScheduleIs, ScheduleFails}
 use Rattle.shade_job.proofs.RefusalLaws.{errs}
 use Rattle.shade_job.proofs.JobLaws.{at_version, at_entry, at_groups, at_group, at_buffers, at_words, at_schedule, at_steps, at_other}
