@@ -1,5 +1,5 @@
 -- Why bytes state no job.
-use Rattle.std.specs.Prelude.{◌≡◌, ℕ, List}
+use Rattle.std.specs.Prelude.{ℕ, List}
 use Rattle.shade_job.specs.declared.refusal.JobRule.{JobRule}
 use Rattle.shade_job.specs.declared.refusal.JobRule.TheVariants as rule
 use Rattle.shade_job.specs.declared.refusal.JobRefusal.{JobRefusal}
