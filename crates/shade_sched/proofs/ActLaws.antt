@@ -8,7 +8,7 @@ use Rattle.shade_lane.specs.Members.{Member, moved, is_able}
 use Rattle.shade_group.specs.declared.event.RunEnd.{RunEnd}
 use Rattle.shade_group.specs.declared.event.RunEnd.TheVariants as run_end
 use Rattle.shade_group.specs.Group.{Machine, able_from, able_lanes, all_ended, all_wait, acts, counted, with_member, ended, waited, met, settled, least_unlike, step_by, step_of, run, step, end_by, run_end_of}
-use Rattle.shade_sched.specs.Choices.{step_to, before_steps, chosen}
+use Rattle.shade_schedules.specs.Choices.{step_to, before_steps, chosen}
 use Rattle.shade_sched.specs.Chosen.{while_running, lane_of, chosen_step}
 use Rattle.shade_sched.specs.Laws.{ChosenLanesAct}
 

@@ -5,7 +5,7 @@ use Rattle.shade_group.specs.declared.event.RunEnd.TheVariants as run_end
 use Rattle.shade_lane.specs.Members.{Member, is_able}
 use Rattle.shade_group.specs.Group.{Machine, able_from, able_lanes, run_end_of, run, step as step_of}
 use Rattle.shade_sched.specs.declared.chosen.ChosenEnd.{ChosenEnd}
-use Rattle.shade_sched.specs.Choices.{step_to, before_steps, chosen}
+use Rattle.shade_schedules.specs.Choices.{step_to, before_steps, chosen}
 use Rattle.shade_sched.specs.Chosen.{while_running, lane_of, chosen_run, chosen_step, IsAble, IsPicked, AreAble, AreGiven, end_of, IsChosenRun, IsCutRun}
 
 -- ---- choices that mean lanes

@@ -1,6 +1,6 @@
 -- Runs in which each step is of a lane that may step, chosen by its place among them.
 use Rattle.std.specs.Prelude.{◌≡◌, ℕ, suc, ◌<◌, ◌≤◌, List, [], ◌∷◌, length, Option, None, slice_get}
-use Rattle.shade_sched.specs.Choices as choices
+use Rattle.shade_schedules.specs.Choices as choices
 use Rattle.shade_group.specs.declared.event.RunEnd.{RunEnd}
 use Rattle.shade_group.specs.declared.event.RunEnd.TheVariants as run_end
 use Rattle.shade_group.specs.Group.{Machine, able_lanes, run_end_of, run, step}

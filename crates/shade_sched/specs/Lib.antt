@@ -1,5 +1,4 @@
--- Rules: Choosers, Choices, Chosen, Laws.
+-- Rules: Choosers, Chosen, Laws.
 pub mod Choosers
-pub mod Choices
 pub mod Chosen
 pub mod Laws

@@ -1,8 +1,9 @@
--- Rules: System, Machine, Races, Words, Orders, Records, Frames. On the way to proofs: Goods, Scripts.
+-- Rules: System, Machine, Races, Words, Choices, Orders, Records, Frames. On the way to proofs: Goods, Scripts.
 pub mod System
 pub mod Machine
 pub mod Races
 pub mod Words
+pub mod Choices
 pub mod Orders
 pub mod Goods
 pub mod Scripts

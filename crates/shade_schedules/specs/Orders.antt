@@ -1,8 +1,9 @@
 -- Orders of steps: by choices among the able lanes, and lane by lane.
-use Rattle.std.specs.Prelude.{◌≡◌, false, ℕ, ◌+◌, Bool, true, false, List, [], ◌∷◌, Option, None, Some, slice_get, replicate}
+use Rattle.std.specs.Prelude.{◌≡◌, ℕ, ◌+◌, Bool, true, false, List, [], ◌∷◌, Option, None, slice_get}
 use Rattle.shade_schedules.specs.System.{System}
 use Rattle.shade_schedules.specs.Machine.{Member, Group, is_able, all_ended, step, run, history, HasEnded}
 use Rattle.shade_schedules.specs.Races.{IsOrderly, Follows}
+use Rattle.shade_schedules.specs.Choices as choices
 
 module _ (K : System) where
   abbrev pub able_by : Bool → ℕ → List ℕ → List ℕ
@@ -18,30 +19,17 @@ module _ (K : System) where
   is_over true all = true
   is_over false all = all
 
-  -- the lane that a choice among the able ones means, until the run is over
-  abbrev pub chosen_by : Bool → ℕ → Group K → Option ℕ
-  chosen_by true pick g = None
-  chosen_by false pick g = slice_get (able_from 0 g.members) pick
+  abbrev pub lane_by : Bool → Group K → ℕ → Option ℕ
+  lane_by true g pick = None
+  lane_by false g pick = slice_get (able_from 0 g.members) pick
 
-  abbrev pub chosen_lane : ℕ → Group K → Option ℕ
-  chosen_lane pick g = chosen_by (is_over g.diverged (all_ended K g.members)) pick g
-
-  abbrev pub step_to : Option ℕ → Group K → Group K
-  step_to None g = g
-  step_to (Some n) g = step K g n
-
-  abbrev pub before_steps : Option ℕ → List ℕ → List ℕ
-  before_steps None steps = []
-  before_steps (Some n) steps = n ∷ steps
-
-  -- the lanes that choices step: at each step the one with the chosen number among the able lanes, until the run is over
-  abbrev pub chosen : List ℕ → Group K → List ℕ
-  chosen [] g = []
-  chosen (pick ∷ picks) g = before_steps (chosen_lane pick g) (chosen picks (step_to (chosen_lane pick g) g))
+  -- the lane that a choice among the able ones means, and none where the run is over
+  abbrev pub lane_of : Group K → ℕ → Option ℕ
+  lane_of g pick = lane_by (is_over g.diverged (all_ended K g.members)) g pick
 
   -- so many steps, each by the least able lane
   abbrev pub lane_by_lane : ℕ → Group K → List ℕ
-  lane_by_lane n g = chosen (replicate n 0) g
+  lane_by_lane n g = choices.lane_by_lane lane_of (step K) n g
 
   -- Where the lane-by-lane run ended with no race, no atomic access and no write to what is fixed, no list of steps races or diverges,
   -- and each that ends leaves the same memory and the same released instances.
