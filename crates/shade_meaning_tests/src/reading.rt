@@ -1,8 +1,9 @@
 //! What several tests of texts use.
 
-use shade_ast::{Expr, NameKey, Names};
+use shade_ast::{Expr, NameKey, Names, Tree};
 use shade_base::Place;
 use shade_lex::{lex, templates};
+use shade_parse::parse;
 use shade_parse_expr::{Goal, expression};
 use std::alloc::Global;
 
@@ -30,4 +31,14 @@ pub fn expr_of(alloc: Global, text: &str, goal: Goal) -> Option<Expr> {
         Ok((read, _, _)) => Some(read),
         Err(_) => None,
     }
+}
+
+/// The tree of a text, if it has one.
+pub fn tree_of(alloc: Global, text: &str) -> Option<Tree> {
+    if text.len() > 1_048_576 {
+        return None;
+    }
+    let tokens = lex(alloc, text).ok()?;
+    let pairs = templates(alloc, &tokens).ok()?;
+    parse(alloc, &tokens, &pairs).ok()
 }

@@ -12,6 +12,7 @@ use Rattle.shade_ast.specs.declared.expr.ExprKind.{ExprKind-F}
 use Rattle.shade_ast.specs.declared.expr.ExprKind.TheOpen as kind
 use Rattle.shade_known.specs.declared.known.Operand.{Operand}
 use Rattle.shade_steps.specs.declared.step.Step.{Step}
+use Rattle.shade_steps.specs.declared.step.TypeRole.{TypeRole}
 use Rattle.shade_steps.specs.declared.step.Task.{Task}
 use Rattle.shade_steps.specs.declared.step.Task.TheVariants as task
 
@@ -102,6 +103,6 @@ steps_of under e = (part_of e).steps under
 abbrev pub steps_of_value : Option ℕ → Expr → List Step
 steps_of_value under e = value_steps under (part_of e)
 
--- and that it is a type; a type stands in no right side
-abbrev pub steps_of_type : Expr → List Step
-steps_of_type e = steps_of None e ++ step_of (part_of e).own None task.IsType ∷ []
+-- and that it is a type, for what it is written; a type stands in no right side
+abbrev pub steps_of_type : TypeRole → Expr → List Step
+steps_of_type role e = steps_of None e ++ step_of (part_of e).own None (task.IsType role) ∷ []

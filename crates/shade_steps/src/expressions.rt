@@ -5,7 +5,7 @@ ghost use Rattle.std.specs.List.{flat_map};
 ghost use Rattle.shade_ast.specs.declared.expr.Expr.{Expr};
 ghost use Rattle.shade_steps.specs.Steps.{step_of, steps_of, steps_of_value, steps_of_type, decided, right_of, is_lazy, operand_asked, part_of};
 
-use crate::step::{Step, Task};
+use crate::step::{Step, Task, TypeRole};
 use shade_ast::{Expr, ExprKind, Infix, Prefix};
 use shade_known::Operand;
 use sqlite_items::Items;
@@ -255,10 +255,16 @@ fn add_listed(
     Ok(())
 }
 
-/// Adds the steps of an expression that stands for a type, and that it is one. Want of memory leaves some of the steps.
-pub fn add_type(alloc: Global, e: &Expr, out: &mut Items<Step>) -> Result<(), AllocError>
-    ensures { OnOk result (out.new ≡ out.old ++ steps_of_type e.now) }
+/// Adds the steps of an expression that stands for a type, and that it is one, for what it is written. Want of memory leaves some of the
+/// steps.
+pub fn add_type(
+    alloc: Global,
+    e: &Expr,
+    role: TypeRole,
+    out: &mut Items<Step>,
+) -> Result<(), AllocError>
+    ensures { OnOk result (out.new ≡ out.old ++ steps_of_type role e.now) }
 {
     add_steps(alloc, e, None, out)?;
-    add(own_of(e), None, Task::IsType, out)
+    add(own_of(e), None, Task::IsType(role), out)
 }
