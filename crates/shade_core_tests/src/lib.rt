@@ -9,6 +9,8 @@ mod flow;
 #[cfg(test)]
 mod graph;
 #[cfg(test)]
+mod limits;
+#[cfg(test)]
 mod overload;
 #[cfg(test)]
 mod reach;
@@ -20,5 +22,7 @@ mod shape;
 mod values;
 #[cfg(test)]
 mod verdict;
+#[cfg(test)]
+mod whole;
 #[cfg(test)]
 mod words;
