@@ -162,19 +162,6 @@ none-all nodes distances distance index none all some =
     let at : slice_get nodes c.0 ≡ Some some.0 = slice_get-get_or nodes c.0 some.0 c.1 ∙ ap (λ (k : ℕ). Some k) c.2 in
     none c.0 some.0 (omega (arith, c.1, all)) at some.2
 
--- the least path from a node to itself is that node alone
-pub itself-is : (edges : List (ℕ × ℕ)) (from target : ℕ) (path : List ℕ) → IsLeastEdgePath edges from target path → from ≡ target → path ≡ from ∷ []
-itself-is edges from target [] l e = absurd l
-itself-is edges from target (first ∷ []) l e = ap (λ (k : ℕ). k ∷ []) l.0
-itself-is edges from target (first ∷ next ∷ rest) l e = elim (l.1.least [] e) [ inl h ↦ absurd (omega (arith, h)) | inr h ↦ absurd (omega (arith, h.0)) ]
-
 -- the mark that an index reads
 pub marked_at : (distances : List (Option ℕ)) (node distance : ℕ) (other : Option ℕ) → node < length distances → get_or distances node other ≡ Some distance → IsMarked distances node distance
 marked_at distances node distance other within read = slice_get-get_or distances node other within ∙ ap (λ (m : Option ℕ). Some m) read
-
--- a node that is not marked is not the target
-pub itself-marked : (nodes : ℕ) (edges : List (ℕ × ℕ)) (from target : ℕ) (distances : List (Option ℕ)) (other : Option ℕ) → IsDistances nodes edges target distances → from < nodes → get_or distances from other ≡ None → from ≡ target → ⊥
-itself-marked nodes edges from target distances other d below read e =
-    let m : (distance : ℕ) × IsMarked distances from distance × (distance ≤ 0) = marked_by nodes edges target distances d from below [] e in
-    let within : from < length distances = omega (arith, d.long, below) in
-    cc (m.1, slice_get-get_or distances from other within, read)

@@ -6,7 +6,7 @@ mod paths;
 mod rows;
 mod search;
 
-ghost use Rattle.std.specs.Prelude.{◌≡◌, ◌<◌, [], ◌∷◌, All, Some, IfOk, IfSome, IfNone};
+ghost use Rattle.std.specs.Prelude.{◌≡◌, ◌<◌, All, IfOk, IfSome, IfNone};
 ghost use Rattle.shade_reach.specs.Paths.{NoPath};
 ghost use Rattle.shade_reach.specs.Digraph.{HasEdge, JoinsNodes, SameEdges, IsTargets, IsDistances, IsLeastEdgePath};
 ghost use Rattle.shade_reach.specs.Search.{AreSources};
@@ -132,7 +132,6 @@ impl Graph {
         requires target { target < self.now.nodes }
         ensures path { IfOk result (λ answer. IfSome answer (IsLeastEdgePath self.now.edges from target)) }
         ensures none { IfOk result (λ answer. IfNone answer (NoPath (HasEdge self.now.edges) from target)) }
-        ensures itself { from ≡ target → IfOk result (λ answer. answer ≡ Some (from ∷ [])) }
     {
         self.paths_to(alloc, target)?.least_from(alloc, from)
     }

@@ -1,6 +1,6 @@
 //! The least paths to one target.
 
-ghost use Rattle.std.specs.Prelude.{◌≡◌, ℕ, ◌+◌, ◌<◌, ◌↔◌, [], ◌∷◌, All, Contains, Some, length, IsTrue, IfOk, IfSome, IfNone};
+ghost use Rattle.std.specs.Prelude.{◌≡◌, ℕ, ◌<◌, ◌↔◌, All, Contains, length, IsTrue, IfOk, IfSome, IfNone};
 ghost use Rattle.std.specs.List.Sorted.{IsStrictlyIncreasing};
 ghost use Rattle.shade_reach.specs.Paths.{NoPath};
 ghost use Rattle.shade_reach.specs.Digraph.{HasEdge, IsDistances, IsLeastEdgePath};
@@ -71,7 +71,6 @@ impl<'graph> PathsTo<'graph> {
         requires { from < self.now.graph.nodes }
         ensures path { IfOk result (λ answer. IfSome answer (IsLeastEdgePath self.now.graph.edges from self.now.target)) }
         ensures none { IfOk result (λ answer. IfNone answer (NoPath (HasEdge self.now.graph.edges) from self.now.target)) }
-        ensures itself { from ≡ self.now.target → IfOk result (λ answer. answer ≡ Some (from ∷ [])) }
     {
         let distances = self.distances();
         let Some(distance) = distances[from as usize] else {

@@ -1,6 +1,6 @@
-use Rattle.std.proofs.Common.{◌≡◌, ◌+◌, ◌-◌, ◌<◌, ◌∷◌, [], length, refl, arith}
+use Rattle.std.proofs.Common.{◌≡◌, ◌+◌, ◌-◌, ◌<◌, length, arith}
 use Rattle.std.proofs.lemmas.Option.{slice_get_within}
-use Rattle.shade_reach.proofs.LeastLaws.{way-begin, way-goes_on, way-step, way-end, itself-is, marked_at, itself-marked}
+use Rattle.shade_reach.proofs.LeastLaws.{way-begin, way-goes_on, way-step, way-end, marked_at}
 use Rattle.shade_reach.proofs.paths.PathsTo.least_from.Goals as goal
 
 pub way-init : goal.way-init
@@ -27,12 +27,3 @@ pub returns-clause-path : goal.returns-clause-path
 returns-clause-path c =
     let none : c.way.left ≡ 0 = omega arith in
     rw c.from_vec.ensures (way-end _ _ _ _ _ _ _ _ c.distances-distances.ensures c.way.invariant none)
-
-pub returns-clause-itself : goal.returns-clause-itself
-returns-clause-itself c e =
-    let none : c.way.left ≡ 0 = omega arith in
-    let is : c.way.path.items ≡ c.args.from ∷ [] = itself-is _ _ _ _ (way-end _ _ _ _ _ _ _ _ c.distances-distances.ensures c.way.invariant none) e in
-    rw (c.from_vec.ensures, is) refl
-
-pub returns-in_default-clause-itself : goal.returns-in_default-clause-itself
-returns-in_default-clause-itself c e = absurd (itself-marked _ _ _ _ _ _ c.distances-distances.ensures c.requires c.in_default.is e)
