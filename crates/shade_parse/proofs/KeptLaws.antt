@@ -1,5 +1,5 @@
 -- Where each word of a tree's shape is among the first of its names, the tree needs no others.
-use Rattle.std.proofs.Common.{◌≡◌, sym, subst, ℕ, ◌+◌, ◌≤◌, max, Bool, List, [], ◌∷◌, length, map, arith, Option, None, Some}
+use Rattle.std.proofs.Common.{sym, subst, ℕ, ◌+◌, ◌≤◌, max, List, [], ◌∷◌, length, map, arith, Option, None, Some}
 use Rattle.std.specs.Prelude.{slice_index_or, option_map}
 use Rattle.shade_base.specs.declared.place.Place.{Place}
 use Rattle.shade_ast.specs.declared.expr.Named.{Named}
@@ -27,7 +27,7 @@ use Rattle.shade_ast.specs.declared.stmt.Arm.{Arm, Arm-F, map-Arm, fold-roll-Arm
 use Rattle.shade_ast.specs.declared.stmt.Block.{Block, Block-F, map-Block, fold-roll-Block, ind-Block}
 use Rattle.shade_ast.specs.declared.stmt.Continuing.{Continuing, Continuing-F, map-Continuing, fold-roll-Continuing}
 use Rattle.shade_ast.specs.declared.stmt.Otherwise.{Otherwise, Otherwise-F, map-Otherwise, fold-roll-Otherwise}
-use Rattle.shade_ast.specs.declared.stmt.Stmt.{Stmt, Stmt-F, map-Stmt, fold-roll-Stmt, ind-Stmt}
+use Rattle.shade_ast.specs.declared.stmt.Stmt.{Stmt, Stmt-F, map-Stmt, fold-roll-Stmt}
 use Rattle.shade_ast.specs.declared.tree.Decl.{Decl}
 use Rattle.shade_ast.specs.declared.tree.DeclKind.{DeclKind}
 use Rattle.shade_ast.specs.declared.tree.DeclKind.TheVariants as decl
@@ -38,8 +38,8 @@ use Rattle.shade_ast.specs.declared.tree.FnResult.{FnResult}
 use Rattle.shade_ast.specs.declared.tree.Member.{Member}
 use Rattle.shade_ast.specs.declared.tree.Rule.{Rule}
 use Rattle.shade_ast.specs.declared.tree.Rule.TheVariants as rule
-use Rattle.shade_ast.specs.Shaped.{name_shape, expr_shapes, kind_step, expr_step, expr_shape, attr_name_shape, arguments_shape, attr_shape, attr_shapes, var_space_shape, var_shape, binding_shape, update_shape, simple_shape, selector_shape, break_if_shape, stmt_shapes, clause_shapes, arm_shapes, maybe_continuing, clause_step, stmt_kind_step, arm_step, block_step, continuing_step, otherwise_step, stmt_step, stmt_shape, block_shape, member_shape, result_shape, decl_kind_shape, decl_shape, rule_shape, directive_kind_shape, directive_shape}
-use Rattle.shade_ast.specs.Needs.{most_of, maybe_of, named_needs, kind_needs, expr_layer_needs, expr_needs, attr_name_needs, arguments_need, attr_needs, attrs_need, var_space_needs, var_needs, binding_needs, update_needs, simple_needs, selector_needs, break_if_needs, clause_needs, stmt_kind_needs, arm_needs, block_layer_needs, continuing_needs, otherwise_needs, stmt_layer_needs, stmt_needs, block_needs, member_needs, result_needs, decl_kind_needs, decl_needs, rule_needs, directive_kind_needs, directive_needs}
+use Rattle.shade_ast.specs.Shaped.{name_shape, expr_shapes, kind_step, expr_step, expr_shape, attr_name_shape, arguments_shape, attr_shape, attr_shapes, var_space_shape, var_shape, binding_shape, update_shape, simple_shape, selector_shape, break_if_shape, stmt_shapes, clause_shapes, arm_shapes, clause_step, stmt_kind_step, arm_step, block_step, continuing_step, otherwise_step, stmt_step, member_shape, result_shape, decl_kind_shape, decl_shape, rule_shape, directive_kind_shape, directive_shape}
+use Rattle.shade_ast.specs.Needs.{most_of, maybe_of, named_needs, kind_needs, expr_layer_needs, expr_needs, attr_name_needs, arguments_need, attr_needs, attrs_need, var_space_needs, var_needs, binding_needs, update_needs, simple_needs, selector_needs, break_if_needs, clause_needs, stmt_kind_needs, arm_needs, block_layer_needs, continuing_needs, otherwise_needs, stmt_layer_needs, member_needs, result_needs, decl_kind_needs, decl_needs, rule_needs, directive_kind_needs, directive_needs}
 use Rattle.shade_ast.proofs.ExprLayers.{kind_shape, kind_count}
 use Rattle.shade_ast.specs.StmtParts.{clause_shaped, clause_count, arm_shaped, arm_count, continuing_shaped, continuing_count, otherwise_shaped, otherwise_count}
 use Rattle.shade_ast.proofs.StmtLayers.{stmt_kind_shaped, stmt_kind_count, block_shaped, block_count, stmt_shaped, stmt_count}

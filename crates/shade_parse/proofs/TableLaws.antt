@@ -1,5 +1,5 @@
 -- The names of a text are enough for each tree that its tokens spell.
-use Rattle.std.proofs.Common.{◌≡◌, refl, sym, ap, ◌∙◌, subst, ℕ, zero, suc, ◌+◌, ◌<◌, ◌≤◌, max, Bool, true, false, cond, List, [], ◌∷◌, ◌++◌, length, map, take, arith, None, Some, slice_get, get_or, length-append}
+use Rattle.std.proofs.Common.{◌≡◌, refl, sym, ap, ◌∙◌, subst, ℕ, ◌+◌, ◌<◌, ◌≤◌, max, Bool, true, false, cond, List, [], ◌∷◌, ◌++◌, length, take, arith, None, Some, slice_get, get_or, length-append}
 use Rattle.std.specs.Prelude.{slice_index_or}
 use Rattle.std.specs.List.{fold, list_any}
 use Rattle.std.specs.Str.{bytes_eq}
@@ -21,7 +21,7 @@ use Rattle.shade_cursor.specs.declared.piece.Piece.{Piece}
 use Rattle.shade_cursor.specs.Shown.{lexeme, lexemes}
 use Rattle.shade_parse.specs.Tables.{with_word, names_of}
 use Rattle.shade_parse.specs.Cuts.{IsWhole}
-use Rattle.shade_parse.proofs.Worded.{OfTokens, OfTree}
+use Rattle.shade_parse.proofs.Worded.{OfTokens}
 use Rattle.shade_parse.proofs.WordLaws.{module_words}
 use Rattle.shade_parse.proofs.KeptLaws.{tree_kept}
 use Rattle.shade_parse.proofs.FirstLaws.{get_more, are_words}

@@ -1,5 +1,5 @@
 -- Whole texts: of all tokens where the answer is one of the tokens up to the first that passes a depth, and in a text.
-use Rattle.std.proofs.Common.{◌≡◌, refl, sym, ap, ◌∙◌, subst, ℕ, zero, suc, ◌+◌, ◌-◌, ◌<◌, ◌≤◌, ◌⊎◌, inl, inr, leb, cond, Bool, true, false, Option, None, Some, List, [], ◌∷◌, ◌++◌, length, take, drop, arith, slice_range, MatchOption, Result, Ok, Err, MatchResult, IfOk}
+use Rattle.std.proofs.Common.{◌≡◌, refl, sym, ap, ◌∙◌, subst, ℕ, zero, suc, ◌+◌, ◌-◌, ◌<◌, ◌≤◌, ◌⊎◌, inl, inr, leb, cond, Bool, true, false, Option, None, Some, List, [], ◌∷◌, ◌++◌, length, take, drop, arith, slice_range, MatchOption, Result, Ok, Err, MatchResult}
 use Rattle.std.proofs.lemmas.List.{length-map, length-take-le, take-append-drop}
 use Rattle.std.proofs.lemmas.Option.{slice_get_within}
 use Rattle.std.proofs.lemmas.Bool.Decides.{nat_tests}
@@ -11,10 +11,8 @@ use Rattle.shade_ast.specs.declared.tree.Tree.{Tree}
 use Rattle.shade_ast.specs.Lexemes.{Lexeme, lexeme_of, lexemes as lexemes_of}
 use Rattle.shade_ast.specs.Shapes.{TreeShape}
 use Rattle.shade_ast.specs.Shaped.{tree_shape}
-use Rattle.shade_ast.specs.Needs.{tree_needs}
-use Rattle.shade_ast.specs.Nodes.{tree_nodes, CountFrom}
 use Rattle.shade_ast.specs.Declarations.{Module}
-use Rattle.shade_ast.specs.Places.{Begins, IsStop, IsOnly}
+use Rattle.shade_ast.specs.Places.{Begins, IsStop}
 use Rattle.shade_cursor.specs.declared.part.Fault.{Fault}
 use Rattle.shade_cursor.specs.declared.part.Fault.TheVariants as fault
 use Rattle.shade_cursor.specs.declared.piece.Piece.{Piece}

@@ -1,5 +1,5 @@
 -- What is true of each word among the tokens of a phrase is true of each word in its shape, and of those behind it.
-use Rattle.std.proofs.Common.{ℕ, Bool, List, [], ◌∷◌, Option, None, Some}
+use Rattle.std.proofs.Common.{ℕ, Bool, List, [], Option}
 use Rattle.shade_ast.specs.declared.lexeme.Sign.{Sign}
 use Rattle.shade_ast.specs.declared.stmt.OpAssign.{OpAssign}
 use Rattle.shade_base.specs.declared.place.Place.{Place}

@@ -1,4 +1,4 @@
-use Rattle.std.proofs.Common.{◌≤◌, length, arith, ap}
+use Rattle.std.proofs.Common.{length, arith, ap}
 use Rattle.std.proofs.lemmas.List.{length-map}
 use Rattle.shade_cursor.specs.Shown.{lexeme, lexemes}
 use Rattle.shade_parse.proofs.TableLaws.{few_names, whole_named}

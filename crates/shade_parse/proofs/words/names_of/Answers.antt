@@ -1,4 +1,4 @@
-use Rattle.shade_parse.proofs.TableLaws.{none_numbered, one_numbered, all_numbered}
+use Rattle.shade_parse.proofs.TableLaws.{none_numbered}
 use Rattle.shade_parse.proofs.words.names_of.Goals as goal
 
 pub loop-piece-init : goal.loop-piece-init
