@@ -59,7 +59,6 @@ impl FnGraph {
     /// The number of a node, where it stands in the graph. Takes no memory.
     pub fn number_of(&self, node: Node) -> Option<u32>
         ensures some { IfSome result (λ number. slice_get self.now.nodes number ≡ Some node) }
-        ensures within { IfSome result (λ number. number < length self.now.nodes) }
         ensures none { IfNone result ((number : ℕ) → slice_get self.now.nodes number ≡ Some node → ⊥) }
     {
         let number = number_of(&self.nodes, node)?;
@@ -231,8 +230,7 @@ fn numbered_edges(
     requires params { length function.now.params < 2 ^ 32 }
     requires ascending { IsAscending nodes.now }
     requires count { length nodes.now < 2 ^ 32 }
-    ensures edges { IfOk result (λ edges. IsNumbered nodes.now (entry_pairs function.now ++ map ends given.now) edges.items) }
-    ensures within { IfOk result (λ edges. JoinsNodes (length nodes.now) edges.items) }
+    ensures { IfOk result (λ edges. IsNumbered nodes.now (entry_pairs function.now ++ map ends given.now) edges.items) }
 {
     let pairs = pairs_of(alloc, function, given)?;
     let edges = numbered(alloc, nodes, &pairs)?;

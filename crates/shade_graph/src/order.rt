@@ -21,7 +21,6 @@ pub fn in_order(nodes: Vec<Node>) -> Vec<Node>
 pub fn number_of(nodes: &[Node], node: Node) -> Option<usize>
     requires { IsAscending nodes.now }
     ensures some { IfSome result (λ number. slice_get nodes.now number ≡ Some node) }
-    ensures within { IfSome result (λ number. number < length nodes.now) }
     ensures none { IfNone result ((number : ℕ) → slice_get nodes.now number ≡ Some node → ⊥) }
 {
     nodes.binary_search(&node).ok()
