@@ -9,7 +9,8 @@ use Rattle.shade_core.specs.declared.module.CoreModule.{CoreModule}
 use Rattle.shade_core.specs.Code.{code_of}
 use Rattle.shade_core.specs.Views.{ValueTypes}
 use Rattle.shade_core.specs.Chains.{CallsIn, Calls, MeetsIn, Chain, last, on}
-use Rattle.shade_core.specs.Limits.{Keeps, KeepsAndCalls, local_bytes, value_bytes, frame_words}
+use Rattle.shade_core.specs.Frames.{frame_length}
+use Rattle.shade_core.specs.Limits.{Keeps, KeepsAndCalls, local_bytes, value_bytes}
 use Rattle.shade_chains.specs.declared.events.Event.{Event}
 use Rattle.shade_chains.specs.declared.chains.Measure.{Measure}
 use Rattle.shade_chains.specs.declared.chains.Measure.TheVariants.{Bytes, Depth, Words}

@@ -1,4 +1,4 @@
--- Rules: Code, Behaviour, Control, Places, Atomics, Rules, Standing, Types, Roots, Views, Fits, Scopes, Chains, Limits,
+-- Rules: Code, Behaviour, Control, Places, Atomics, Rules, Standing, Types, Roots, Views, Fits, Scopes, Chains, Frames, Limits,
 -- HasShape.
 pub mod Code
 pub mod Behaviour
@@ -13,5 +13,6 @@ pub mod Views
 pub mod Fits
 pub mod Scopes
 pub mod Chains
+pub mod Frames
 pub mod Limits
 pub mod HasShape

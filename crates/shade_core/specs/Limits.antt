@@ -15,6 +15,7 @@ use Rattle.shade_core.specs.declared.module.CoreModule.{CoreModule}
 use Rattle.shade_core.specs.Types.{spelled}
 use Rattle.shade_core.specs.Views.{ValueTypes}
 use Rattle.shade_core.specs.Chains.{CallsIn, Calls, MeetsIn, Chain}
+use Rattle.shade_core.specs.Frames.{frame_length}
 
 -- in bytes
 abbrev pub size_at : Table → TypeId → ℕ
@@ -65,13 +66,9 @@ LaneBytes shader values = Chain (Keeps shader values) (KeepsAndCalls shader valu
 abbrev pub Depth : CoreModule → ℕ → ℕ → Type 0
 Depth shader = Chain (λ k total. total ≡ 1) (λ k g total. Calls shader k g × (total ≡ 1))
 
--- the words of a frame, with so many loops open: its function, its statement, how many loops are open, and their turns
-abbrev pub frame_words : ℕ → ℕ
-frame_words loops = 3 + loops
-
--- words of an instance: a frame for each function of a chain of calls, to a place where all lanes meet
+-- how many words an instance has: a frame for each function of a chain of calls, to a place where all lanes meet
 abbrev pub InstanceWords : CoreModule → ℕ → ℕ → Type 0
-InstanceWords shader = Chain (λ k total. (loops : ℕ) × MeetsIn shader k loops × (total ≡ frame_words loops)) (λ k g total. (loops : ℕ) × CallsIn shader k g loops × (total ≡ frame_words loops))
+InstanceWords shader = Chain (λ k total. (loops : ℕ) × MeetsIn shader k loops × (total ≡ frame_length loops)) (λ k g total. (loops : ℕ) × CallsIn shader k g loops × (total ≡ frame_length loops))
 
 abbrev pub IsEntry : CoreModule → ℕ → Type 0
 IsEntry shader k = (f : CoreFunction) × (slice_get shader.functions k ≡ Some f) × IsSome f.entry

@@ -5,6 +5,7 @@ use Rattle.shade_values.specs.declared.types.Scalar.TheVariants as scalar
 use Rattle.shade_values.specs.declared.types.ShadeType.{ShadeType}
 use Rattle.shade_values.specs.declared.types.ShadeType.TheVariants as type
 use Rattle.shade_values.specs.declared.types.TypeId.{TypeId}
+use Rattle.shade_values.specs.Sound.{IsSound}
 use Rattle.shade_values.specs.Table.{Table}
 use Rattle.shade_values.specs.Shape.{Shape, plain, vector, array, runtime_array, atomic, structure, exchanged, pointer, Shapes, no_member, member, shape_of, shapes, spell}
 use Rattle.shade_values.specs.Layouts.{is_loadable}
@@ -134,7 +135,9 @@ pub record IsHeld (t : Table) (ty : ShadeType) : Type 0 where
 abbrev pub NamesHeld : Table → TypeId → Type 0
 NamesHeld t id = (ty : ShadeType) × (type_at t id ≡ Some ty) × IsConstructible t ty
 
--- Each type of a table is nested at most 255 deep, and the scalar of each atomic is there.
+-- The types of a table are types of the standard, each over those before it and none twice; each is nested at most 255 deep, and the scalar
+-- of each atomic is there. (WGSL, "Composite Types".)
 pub record IsTable (t : Table) : Type 0 where
+  pub sound : IsSound t
   pub nested : (id : TypeId) (ty : ShadeType) → type_at t id ≡ Some ty → nesting (spelled t ty) ≤ greatest_nesting
   pub scalars : (s : Scalar) → Contains t.types (type.Atomic s) → Contains t.types (type.Plain s)

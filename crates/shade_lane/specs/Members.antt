@@ -1,10 +1,11 @@
 -- A lane that may wait: the instance of the barrier at which it waits is part of its state, and its place is already the next one,
 -- so that a release is a change of state alone.
-use Rattle.std.specs.Prelude.{ℕ, Bool, true, false, List, ◌∷◌, map, length, Option, Some, None}
+use Rattle.std.specs.Prelude.{ℕ, Bool, true, false, List, ◌∷◌, map, Option, Some, None}
 use Rattle.shade_values.specs.declared.types.Space.{Space}
 use Rattle.shade_values.specs.declared.value.Value.{Value}
 use Rattle.shade_core.specs.declared.module.CoreFunction.{CoreFunction}
 use Rattle.shade_core.specs.Code.{Plain, Barrier, Code, plain, code_of}
+use Rattle.shade_core.specs.Frames.{frame_words}
 use Rattle.shade_lane.specs.declared.builtins.Builtins.{Builtins}
 use Rattle.shade_lane.specs.declared.state.LaneState.{LaneState}
 use Rattle.shade_lane.specs.declared.state.LaneState.TheVariants.{Able, Waiting, Ended}
@@ -22,9 +23,9 @@ pub record Arrival : Type 0 where
   pub space : Space
   pub instance : List ℕ
 
--- the words of an instance: the function, the statement, the number of open loops, and their counts
+-- the words of an instance, whose one frame is that of the entry
 abbrev pub instance_words : ℕ → ℕ → List ℕ → List ℕ
-instance_words entry n turns = entry ∷ n ∷ length turns ∷ turns
+instance_words entry n turns = frame_words (record { function = entry; statement = n; turns = turns })
 
 abbrev pub act_arrival : ℕ → ℕ → List ℕ → Plain → Option Arrival
 act_arrival entry n turns (Barrier space severity) = Some (record { space = space; instance = instance_words entry n turns })

@@ -5,7 +5,8 @@ use Rattle.std.specs.List.{flat_map}
 use Rattle.std.proofs.lemmas.List.{append_assoc, length-append, length-drop}
 use Rattle.std.proofs.Math.Seq.{take-append_seam, drop-append_seam, take-length}
 use Rattle.shade_core.specs.declared.module.CoreFunction.{CoreFunction}
-use Rattle.shade_report.specs.RunReport.{Frame, OfTurn, frame_words, frames_from, frames_of, release_line, release_lines}
+use Rattle.shade_core.specs.Frames.{Frame, frame_words, frame_length}
+use Rattle.shade_report.specs.RunReport.{OfTurn, frames_from, frames_of, release_line, release_lines}
 use Rattle.shade_report.specs.Frames.{FramesAreRead}
 
 -- counts that are all there
@@ -72,9 +73,12 @@ frame_front f words =
     frame_read f.function f.statement (length f.turns) (f.turns ++ words) (front_fits f.turns words)
     ∙ ap₂ (λ ts ws. record { function = f.function; statement = f.statement; turns = ts } ∷ frames_of ws) (take-append_seam f.turns words) (drop-append_seam f.turns words)
 
-pub read_frames : FramesAreRead
+read_frames : (frames : List Frame) → frames_of (flat_map frame_words frames) ≡ frames
 read_frames [] = refl
 read_frames (f ∷ frames) = frame_front f (flat_map frame_words frames) ∙ ap (λ fs. f ∷ fs) (read_frames frames)
+
+pub frames_are_read : FramesAreRead
+frames_are_read = record { read = read_frames; one = λ frames others e. sym (read_frames frames) ∙ (ap frames_of e ∙ read_frames others); lengths = λ f. refl }
 
 releases_from : (functions : List CoreFunction) (instances : List (List ℕ)) (k number : ℕ) (instance : List ℕ) → slice_get instances k ≡ Some instance → release_lines functions number (drop k instances) ≡ release_line functions number instance ++ release_lines functions (number + 1) (drop (suc k) instances)
 releases_from functions [] k number instance is = absurd (cc)

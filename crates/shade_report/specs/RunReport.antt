@@ -4,23 +4,13 @@ use Rattle.std.specs.Prelude.{ℕ, zero, suc, ◌+◌, List, [], ◌∷◌, ◌+
 use Rattle.std.specs.List.{join_by}
 use Rattle.std.specs.Fmt.{decimal}
 use Rattle.shade_core.specs.declared.module.CoreFunction.{CoreFunction}
+use Rattle.shade_core.specs.Frames.{Frame}
 use Rattle.shade_group.specs.declared.event.RunEnd.{RunEnd}
 use Rattle.shade_group.specs.declared.event.RunEnd.TheVariants.{Ended, Diverged, Running}
 use Rattle.shade_group.specs.Group.{Machine, run_end_of, waiting_at}
 use Rattle.shade_report.specs.CheckReport.{function_name}
 
 -- ---- instances
-
--- A call that is open at an instance, or the function that holds its barrier: the function, the statement that stands there, and the
--- counts of the open loops, the outermost first.
-pub record Frame : Type 0 where
-  pub function : ℕ
-  pub statement : ℕ
-  pub turns : List ℕ
-
--- the words of a frame in an instance
-abbrev pub frame_words : Frame → List ℕ
-frame_words f = f.function ∷ f.statement ∷ length f.turns ∷ f.turns
 
 -- what the next word of an instance is
 pub data Next : Type 0 where

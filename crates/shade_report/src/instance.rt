@@ -106,7 +106,8 @@ pub(crate) fn add_instance(
     Ok(())
 }
 
-/// The frames that write the words of an instance are those that a report reads from them.
+/// The frames that write the words of an instance are those that a report reads from them, so that the words tell them; and a frame writes
+/// as many words as the limit on instances counts.
 pub fn frames_are_read()
     ensures { FramesAreRead }
 {}

@@ -12,4 +12,3 @@ pub mod Goods
 pub mod Wholes
 pub mod Scripts
 pub mod Records
-pub mod Frames

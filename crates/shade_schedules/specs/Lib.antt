@@ -1,4 +1,4 @@
--- Rules: System, Machine, Races, Words, Choices, Orders, Records, Frames. On the way to proofs: Goods, Scripts.
+-- Rules: System, Machine, Races, Words, Choices, Orders, Records. On the way to proofs: Goods, Scripts.
 pub mod System
 pub mod Machine
 pub mod Races
@@ -8,4 +8,3 @@ pub mod Orders
 pub mod Goods
 pub mod Scripts
 pub mod Records
-pub mod Frames

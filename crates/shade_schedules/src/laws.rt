@@ -1,6 +1,5 @@
 //! The laws of lanes that share memory, each as the contract of a function that does nothing.
 
-ghost use Rattle.shade_schedules.specs.Frames.{WordsTellFrames};
 ghost use Rattle.shade_schedules.specs.Scripts.{ScriptsAreIndependent, ScriptsCommute, ScriptsLeaveOne, ScriptsTellRaces};
 
 /// Says that no list of steps races or diverges where one ended without a race and without atomic accesses, and that each that ends leaves
@@ -22,9 +21,4 @@ pub fn ends_are_one()
 /// Says that a history is free of races exactly where no word that was touched has a recorded race.
 pub fn records_tell_races()
     ensures { ScriptsTellRaces }
-{}
-
-/// Says that the words of an instance tell its frames.
-pub fn words_tell_frames()
-    ensures { WordsTellFrames }
 {}

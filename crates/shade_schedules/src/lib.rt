@@ -6,7 +6,4 @@
 
 mod laws;
 
-pub use laws::{
-    ends_are_one, lane_by_lane_stands_for_all, records_tell_races, schedules_agree,
-    words_tell_frames,
-};
+pub use laws::{ends_are_one, lane_by_lane_stands_for_all, records_tell_races, schedules_agree};

@@ -68,10 +68,12 @@ pub fn are_nested(alloc: Global, table: &TypeTable) -> Result<bool, AllocError>
     Ok(are_shallow(&depths))
 }
 
-/// Whether each type of a table is nested at most 255 deep, and the scalar of each atomic is there.
+/// Whether each type of a table is nested at most 255 deep, and the scalar of each atomic is there. That its types are types of the
+/// standard holds of every table.
 pub fn is_table(alloc: Global, table: &TypeTable) -> Result<bool, AllocError>
     ensures { IfOk result (λ b. IsTrue b ↔ IsTable table.now) }
 {
+    let _sound = table.count();
     if !has_scalars(table) {
         return Ok(false);
     }

@@ -8,5 +8,5 @@ returns-then-not-has_scalars c = refutes (λ t. absurd (let h = c.has_scalars.en
 pub returns : goal.returns
 returns c =
     IfOk-weaker c.are_nested.result _ _
-    (λ b h. (λ t. record { nested = h.0 t; scalars = c.has_scalars.ensures.0 c.if-not-has_scalars.false }, λ s. h.1 s.nested))
+    (λ b h. (λ t. record { sound = c.count-sound.ensures.sound; nested = h.0 t; scalars = c.has_scalars.ensures.0 c.if-not-has_scalars.false }, λ s. h.1 s.nested))
     c.are_nested.ensures
