@@ -20,10 +20,11 @@ use Rattle.shade_report.specs.RunReport.{run_line, lane_lines, released_line, re
 use Rattle.shade_group.specs.declared.event.RunEnd.{RunEnd}
 use Rattle.shade_group.specs.declared.event.RunEnd.TheVariants as run_end
 use Rattle.shade_group.specs.Group.{Machine, run_end_of, end_by, all_ended}
-use Rattle.shade_top.specs.Answer.{Answer, IsAnswer, no_form, answered, IsAnswerTo, check_unread, checked, run_unread, stopped, job_unread, run_, IsChecked, refused, judged, IsRan, no_job, job, NoJob, Runs, fault_read, ran, outcome, run_status}
+use Rattle.shade_files.specs.Reads.{File, AreReads}
+use Rattle.shade_files.specs.Writes.{Answer}
+use Rattle.shade_top.specs.Answer.{IsAnswer, no_form, answered, IsAnswerTo, check_unread, checked, run_unread, stopped, job_unread, run_, IsChecked, refused, judged, IsRan, no_job, job, NoJob, Runs, fault_read, ran, outcome, run_status}
 use Rattle.shade_top.specs.Causes.{Rejects, Refuses, Finishes, Diverges, Spends, ShaderRead, JobRead, unread_file, Succeeds}
-use Rattle.shade_top.specs.Request.{Request, File, files, shader_file, job_file}
-use Rattle.shade_top.specs.Serves.{AreReads}
+use Rattle.shade_top.specs.Request.{Request, files, shader_file, job_file}
 
 pub clash : {A : Type 0} (status one other : ℕ) → status ≡ one → status ≡ other → one ≢ other → A
 clash status one other is also apart = absurd (apart (sym is ∙ also))

@@ -5,13 +5,14 @@ use Rattle.shade_base.specs.Counter.{Rose}
 use Rattle.shade_base.specs.Shelf.{faults_of}
 use Rattle.shade_core.specs.declared.module.CoreModule.{CoreModule}
 use Rattle.shade_report.specs.CheckReport.{count_of}
-use Rattle.shade_top.specs.Answer.{Answer, IsAnswer, no_form, answered, IsAnswerTo, check_unread, checked, run_unread, stopped, job_unread, run_, IsChecked, refused, IsRan, no_job, job, NoJob, Runs}
+use Rattle.shade_files.specs.Changes.{ShelfChange, SinkChange}
+use Rattle.shade_files.specs.Writes.{Answer, whole, cut}
+use Rattle.shade_top.specs.Answer.{IsAnswer, no_form, answered, IsAnswerTo, check_unread, checked, run_unread, stopped, job_unread, run_, IsChecked, refused, IsRan, no_job, job, NoJob, Runs}
 use Rattle.shade_top.specs.Answer.{judged as judged_}
 use Rattle.shade_top.specs.Causes.{HasCause, JobRead, Refuses, ShaderRead, Unread}
-use Rattle.shade_top.specs.Changes.{ShelfChange, SinkChange}
 use Rattle.shade_top.specs.Laws.{IsDue, judged, rejected, ran, Completes, given, no_memory, Completeness}
 use Rattle.shade_top.specs.Request.{Request, Check, Run, request_of}
-use Rattle.shade_top.specs.Serves.{Ends, written, whole, cut}
+use Rattle.shade_top.specs.Serves.{Ends, written}
 use Rattle.shade_top.specs.Serves.{no_memory as no_memory_}
 use Rattle.shade_top.proofs.CauseLaws.{none_status}
 

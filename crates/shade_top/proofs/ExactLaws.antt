@@ -4,10 +4,12 @@ use Rattle.shade_base.specs.declared.severity.Severity.TheVariants.{Error}
 use Rattle.shade_core.specs.declared.module.CoreModule.{CoreModule}
 use Rattle.shade_report.specs.CheckReport.{count_of}
 use Rattle.shade_group.specs.Group.{all_ended}
-use Rattle.shade_top.specs.Answer.{Answer, IsAnswer, no_form, answered, IsAnswerTo, check_unread, checked, run_unread, stopped, job_unread, run_, IsChecked, refused, judged, IsRan, no_job, job, NoJob, Runs, bad_words, ran, outcome, run_status, verdict, refusal}
+use Rattle.shade_files.specs.Reads.{File}
+use Rattle.shade_files.specs.Writes.{Answer}
+use Rattle.shade_top.specs.Answer.{IsAnswer, no_form, answered, IsAnswerTo, check_unread, checked, run_unread, stopped, job_unread, run_, IsChecked, refused, judged, IsRan, no_job, job, NoJob, Runs, bad_words, ran, outcome, run_status, verdict, refusal}
 use Rattle.shade_top.specs.Causes.{Rejects, Refuses, Finishes, Diverges, Spends, ShaderRead, JobRead, unread_file, Succeeds, IsExact}
 use Rattle.shade_top.specs.Laws.{ExactStatuses}
-use Rattle.shade_top.specs.Request.{Request, File, files, requested, request_of, files_of}
+use Rattle.shade_top.specs.Request.{Request, files, requested, request_of, files_of}
 use Rattle.shade_top.proofs.CauseLaws.{not_three, errors_status, none_status, eight_diverged, one_cause, refused_cause, four_cause, five_cause, eight_cause, nine_cause, zero_cause, Fault}
 
 none_some : {request : Request} (asked : Option Request) → asked ≡ None → asked ≡ Some request → ⊥

@@ -8,10 +8,11 @@ use Rattle.shade_verdict.specs.Laws.{OneVerdict}
 use Rattle.shade_first.specs.FirstForm.{StandsFor}
 use Rattle.shade_first.specs.Laws.{OneModule, OnePlace, NeverBoth}
 use Rattle.shade_group.specs.Group.{members_from, sized_members, entry_members, sized_runs, entry_runs, lane_count}
+use Rattle.shade_files.specs.Writes.{Answer}
 use Rattle.shade_top.specs.Ready.{FirstFormIsReady}
 use Rattle.shade_job.specs.Steps.{States}
 use Rattle.shade_job.specs.Laws.{OneJob}
-use Rattle.shade_top.specs.Answer.{Answer, IsAnswer, no_form, answered, IsAnswerTo, check_unread, checked, run_unread, stopped, job_unread, run_, IsChecked, refused, judged, IsRan, no_job, job, NoJob, Runs, bad_words, fault_read, refusal, refused_job, verdict, inputs, lanes_of, ran, outcome}
+use Rattle.shade_top.specs.Answer.{IsAnswer, no_form, answered, IsAnswerTo, check_unread, checked, run_unread, stopped, job_unread, run_, IsChecked, refused, judged, IsRan, no_job, job, NoJob, Runs, bad_words, fault_read, refusal, refused_job, verdict, inputs, lanes_of, ran, outcome}
 use Rattle.shade_top.specs.Request.{Request, Check, Run, request_of}
 use Rattle.shade_top.specs.Laws.{OneAnswer}
 use Rattle.shade_report.specs.declared.refusal.Refusal.{Refusal}

@@ -9,11 +9,12 @@ use Rattle.shade_report.specs.declared.refusal.Refusal.{Refusal}
 use Rattle.shade_report.specs.CheckReport.{count_of}
 use Rattle.shade_verdict.specs.declared.violation.Violation.{Violation}
 use Rattle.shade_verdict.specs.Violations.{AreViolations}
-use Rattle.shade_top.specs.Answer.{Answer, IsAnswerTo, check_unread, checked, run_unread, stopped, job_unread, run_, IsChecked, refused, judged, IsRan, nothing_read, shader_read, job_read, Runs, fault_read, refusal, verdict}
-use Rattle.shade_top.specs.Changes.{ShelfChange}
+use Rattle.shade_files.specs.Changes.{ShelfChange}
+use Rattle.shade_files.specs.Reads.{File, AreReads}
+use Rattle.shade_files.specs.Writes.{Answer}
+use Rattle.shade_top.specs.Answer.{IsAnswerTo, check_unread, checked, run_unread, stopped, job_unread, run_, IsChecked, refused, judged, IsRan, nothing_read, shader_read, job_read, Runs, fault_read, refusal, verdict}
 use Rattle.shade_top.specs.Report.{Outcome, RunOutcome, answer_of}
-use Rattle.shade_top.specs.Request.{Request, Check, Run, File, files, shader_file, job_file}
-use Rattle.shade_top.specs.Serves.{AreReads}
+use Rattle.shade_top.specs.Request.{Request, Check, Run, files, shader_file, job_file}
 use Rattle.shade_top.specs.Text.{IsModuleOf, IsRefused}
 use Rattle.shade_top.specs.declared.report.Report.{Report}
 

@@ -5,7 +5,8 @@ use Rattle.shade_core.specs.declared.module.CoreModule.{CoreModule}
 use Rattle.shade_mem.specs.declared.inputs.Inputs.{Inputs}
 use Rattle.shade_group.specs.Group.{Machine, begin, run}
 use Rattle.shade_job.specs.Steps.{AllBelow, States}
-use Rattle.shade_top.specs.Answer.{Answer, IsRan, no_job, job, inputs, lanes_of, outcome, refused_job}
+use Rattle.shade_files.specs.Writes.{Answer}
+use Rattle.shade_top.specs.Answer.{IsRan, no_job, job, inputs, lanes_of, outcome, refused_job}
 
 -- each step of a job is the number of a lane
 below_at : (lanes : ℕ) (steps : List ℕ) (i n : ℕ) → AllBelow lanes steps → slice_get steps i ≡ Some n → n < lanes

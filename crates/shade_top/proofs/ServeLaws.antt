@@ -11,13 +11,15 @@ use Rattle.shade_graph.specs.Graph.{Among, here, later}
 use Rattle.shade_graph.specs.Order.{severity_rank}
 use Rattle.shade_report.specs.CheckReport.{count_of}
 use Rattle.shade_sound.specs.Laws.{NeverDiverges}
+use Rattle.shade_files.specs.Changes.{ShelfChange, SinkChange}
+use Rattle.shade_files.specs.Reads.{File, AreReads}
+use Rattle.shade_files.specs.Writes.{Answer, IsWritten, whole, cut}
 use Rattle.shade_top.specs.Ready.{CleanWithoutErrors, FirstFormIsReady, HasError, IsReady}
-use Rattle.shade_top.specs.Answer.{Answer, IsAnswer, no_form, answered, IsAnswerTo, Runs, bad_words, inputs}
+use Rattle.shade_top.specs.Answer.{IsAnswer, no_form, answered, IsAnswerTo, Runs, bad_words, inputs}
 use Rattle.shade_top.specs.Causes.{Diverges, HasCause, JobRead, RefusesAloud, Unread, unread_file}
-use Rattle.shade_top.specs.Changes.{ShelfChange, SinkChange}
 use Rattle.shade_top.specs.Report.{Outcome, answer_of}
-use Rattle.shade_top.specs.Request.{Request, File, requested, request_of, files, files_of}
-use Rattle.shade_top.specs.Serves.{AreReads, Ends, written, no_memory, IsWritten, whole, cut, Serves}
+use Rattle.shade_top.specs.Request.{Request, requested, request_of, files, files_of}
+use Rattle.shade_top.specs.Serves.{Ends, written, no_memory, Serves}
 use Rattle.shade_top.specs.declared.report.Report.{Report}
 use Rattle.shade_top.proofs.CauseLaws.{answer_fits, clash, Known, words_known, not_six, not_three, one_cause, two_cause, four_cause, five_cause, eight_cause, nine_cause, Fault, unread_rose}
 

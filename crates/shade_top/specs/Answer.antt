@@ -14,12 +14,9 @@ use Rattle.shade_group.specs.declared.event.RunEnd.{RunEnd}
 use Rattle.shade_group.specs.declared.event.RunEnd.TheVariants as run_end
 use Rattle.shade_group.specs.Group.{Machine, begin, run, run_end_of}
 use Rattle.shade_job.specs.Steps.{States}
+use Rattle.shade_files.specs.Writes.{Answer}
 use Rattle.shade_top.specs.Request.{Request, Check, Run, request_of}
 use Rattle.shade_top.specs.Text.{IsModuleOf, IsRefused}
-
-pub record Answer : Type 0 where
-  pub status : ℕ
-  pub text : List ℕ
 
 abbrev pub bad_words : Answer
 bad_words = record { status = 3; text = codes "bad words\n" }

@@ -13,9 +13,11 @@ use Rattle.shade_report.specs.Refusals.{refusal_line}
 use Rattle.shade_group.specs.declared.event.RunEnd.TheVariants as run_end
 use Rattle.shade_group.specs.Group.{run_end_of}
 use Rattle.shade_job.specs.Steps.{States}
-use Rattle.shade_top.specs.Answer.{Answer, NoJob, Runs, fault_read, lanes_of, ran}
-use Rattle.shade_top.specs.Changes.{ShelfChange, SinkChange}
-use Rattle.shade_top.specs.Request.{Request, Check, Run, File, request_of, files_of}
+use Rattle.shade_files.specs.Changes.{ShelfChange, SinkChange}
+use Rattle.shade_files.specs.Reads.{File}
+use Rattle.shade_files.specs.Writes.{Answer}
+use Rattle.shade_top.specs.Answer.{NoJob, Runs, fault_read, lanes_of, ran}
+use Rattle.shade_top.specs.Request.{Request, Check, Run, request_of, files_of}
 use Rattle.shade_top.specs.Text.{IsModuleOf, IsRefused}
 
 -- ---- causes

@@ -9,10 +9,11 @@ use Rattle.shade_verdict.specs.Violations.{AreViolations}
 use Rattle.shade_report.specs.CheckReport.{count_of}
 use Rattle.shade_job.specs.Steps.{States}
 use Rattle.shade_orders.specs.Orders.{Agrees, HasEnded}
-use Rattle.shade_top.specs.Answer.{Answer, IsAnswer, NoJob, Runs, lanes_of, outcome, verdict}
+use Rattle.shade_files.specs.Changes.{ShelfChange, SinkChange}
+use Rattle.shade_files.specs.Writes.{Answer}
+use Rattle.shade_top.specs.Answer.{IsAnswer, NoJob, Runs, lanes_of, outcome, verdict}
 use Rattle.shade_top.specs.Answer.{ran as machine_after}
 use Rattle.shade_top.specs.Causes.{IsExact, JobRead, Refuses, ShaderRead}
-use Rattle.shade_top.specs.Changes.{ShelfChange, SinkChange}
 use Rattle.shade_top.specs.Request.{Request, Check, Run, request_of}
 use Rattle.shade_top.specs.Serves.{Serves}
 use Rattle.shade_top.specs.Text.{IsModuleOf}

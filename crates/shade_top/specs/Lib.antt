@@ -1,7 +1,6 @@
--- Rules: Answer, Causes, Changes, Laws, Ready, Request, Serves, Text. On the way to proofs: Report.
+-- Rules: Answer, Causes, Laws, Ready, Request, Serves, Text. On the way to proofs: Report.
 pub mod Answer
 pub mod Causes
-pub mod Changes
 pub mod Laws
 pub mod Ready
 pub mod Report

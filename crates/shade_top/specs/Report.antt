@@ -1,7 +1,5 @@
 -- On the way to the proof: what the parts of the top call make of a text, a job, a file or a request.
-use Rattle.std.specs.Prelude.{◌≡◌, ℕ, List, [], ◌∷◌, Result, Ok, Err, IfOk, Option, Some, None, Vec}
-use Rattle.std.specs.Option.{option_map}
-use Rattle.std.specs.declared.alloc.Global.{Global}
+use Rattle.std.specs.Prelude.{ℕ, List, [], ◌∷◌, Result, IfOk, Option, Some, None}
 use Rattle.shade_core.specs.declared.module.CoreModule.{CoreModule}
 use Rattle.shade_lex.specs.declared.fault.LexFault.{LexFault}
 use Rattle.shade_lex.specs.declared.fault.LexFault.TheVariants as lex_fault
@@ -10,11 +8,12 @@ use Rattle.shade_cursor.specs.declared.fault.SyntaxFault.{SyntaxFault}
 use Rattle.shade_cursor.specs.declared.fault.SyntaxFault.TheVariants as syntax_fault
 use Rattle.shade_report.specs.declared.refusal.Refusal.{Refusal}
 use Rattle.shade_report.specs.declared.refusal.Refusal.TheVariants.{Lex, Unexpected, TooDeep}
-use Rattle.shade_top.specs.Answer.{Answer, IsAnswerTo, MayRead}
-use Rattle.shade_top.specs.Changes.{ShelfChange}
+use Rattle.shade_files.specs.Changes.{ShelfChange}
+use Rattle.shade_files.specs.Reads.{AreReads}
+use Rattle.shade_files.specs.Writes.{Answer}
+use Rattle.shade_top.specs.Answer.{IsAnswerTo, MayRead}
 use Rattle.shade_top.specs.Request as asked
-use Rattle.shade_top.specs.Request.{File, files, job_file}
-use Rattle.shade_top.specs.Serves.{AreReads}
+use Rattle.shade_top.specs.Request.{files, job_file}
 use Rattle.shade_top.specs.Text.{IsModuleOf, IsRefused}
 use Rattle.shade_top.specs.declared.report.Report.{Report}
 use Rattle.shade_top.specs.declared.request.Request.{Request}
@@ -48,11 +47,6 @@ syntax_refusal syntax_fault.NoMemory = None
 abbrev pub IsReadingOf : List ℕ → Reading → Type 0
 IsReadingOf bytes (reading.Shader shader) = IsModuleOf bytes shader
 IsReadingOf bytes (reading.Refused why) = IsRefused bytes why
-
--- a read of one file: what it gave, or want of memory, which leaves the failed names
-abbrev pub IsReadBy : {E : Type 0} → ShelfChange → File → Result (Option (Vec ℕ Global)) E → Type 0
-IsReadBy shelf file (Ok read) = AreReads shelf.texts (file ∷ []) (option_map (λ bytes. bytes.items) read ∷ []) shelf.failed shelf.failed'
-IsReadBy shelf file (Err _) = shelf.failed' ≡ shelf.failed
 
 -- the reads that a request led to, and the answer to them, if memory did not run out
 pub record Outcome {E : Type 0} (shelf : ShelfChange) (request : asked.Request) (result : Result Report E) : Type 0 where

@@ -2,6 +2,7 @@
 use Rattle.std.specs.Prelude.{ℕ, List, [], ◌∷◌, map, if◌then◌else◌, Option, None, Some, codes, String, string_bytes}
 use Rattle.std.specs.declared.alloc.Global.{Global}
 use Rattle.std.specs.Str.{bytes_eq}
+use Rattle.shade_files.specs.Reads.{File}
 
 -- `check FILE`, or `run FILE JOB`
 pub data Request : Type 0 where
@@ -17,11 +18,6 @@ abbrev pub request_of : List (List ℕ) → Option Request
 request_of (verb ∷ file ∷ []) = if bytes_eq verb (codes "check") then Some (Check file) else None
 request_of (verb ∷ file ∷ job ∷ []) = if bytes_eq verb (codes "run") then Some (Run file job) else None
 request_of _ = None
-
--- a file, and the greatest number of bytes that it may have
-pub record File : Type 0 where
-  pub name : List ℕ
-  pub limit : ℕ
 
 -- the text of a shader
 abbrev pub shader_file : List ℕ → File

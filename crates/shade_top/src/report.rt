@@ -3,18 +3,19 @@
 ghost use Rattle.std.specs.Prelude.{◌≡◌, ◌<◌, ◌≤◌, ◌↔◌, ℕ, List, IsTrue, IfOk};
 ghost use Rattle.shade_core.specs.Standing.{AreNumbered};
 ghost use Rattle.shade_report.specs.CheckReport.{count_of};
+ghost use Rattle.shade_files.specs.Changes.{shelf_change};
 ghost use Rattle.shade_top.specs.Ready.{IsReady};
 ghost use Rattle.shade_top.specs.Answer.{IsChecked, fault_read, refusal as refusal_answer, verdict as verdict_answer, verdict_status};
-ghost use Rattle.shade_top.specs.Changes.{shelf_change};
-ghost use Rattle.shade_top.specs.Report.{answer_of, IsReadBy, Outcome, request_seen};
+ghost use Rattle.shade_top.specs.Report.{answer_of, Outcome, request_seen};
 ghost use Rattle.shade_top.specs.Text.{IsModuleOf};
 
 use crate::ready::first_form_is_ready;
 use crate::request::Request;
 use crate::run::run_bytes;
 use crate::text::{Reading, TEXT_LIMIT, read_shader};
-use shade_base::{Severity, Shelf, ShelfRefusal, Status};
+use shade_base::{Severity, Shelf, Status};
 use shade_core::CoreModule;
+use shade_files::read;
 use shade_report::{Refusal, check_text, count_with, refusal_text};
 use shade_verdict::{Violation, violations_of};
 use std::alloc::{AllocError, Global};
@@ -44,24 +45,6 @@ pub fn report_on<H: Shelf>(
             Some(bytes) => run_bytes(alloc, &bytes, job, shelf),
             None => unread(alloc, file),
         },
-    }
-}
-
-/// Reads a file: its first bytes, or nothing where the read fails.
-pub fn read<H: Shelf>(
-    alloc: Global,
-    name: &str,
-    limit: usize,
-    shelf: &mut H,
-) -> Result<Option<Vec<u8>>, AllocError>
-    requires { limit < usize.MAX }
-    ensures given { IsReadBy (shelf_change H.texts H.failed shelf.old shelf.new) (record { name = name.now; limit = limit }) result }
-    ensures texts { H.texts shelf.new ≡ H.texts shelf.old }
-{
-    match shelf.read(alloc, name, limit) {
-        Ok(bytes) => Ok(Some(bytes)),
-        Err(ShelfRefusal::Failed) => Ok(None),
-        Err(ShelfRefusal::NoMemory) => Err(AllocError),
     }
 }
 

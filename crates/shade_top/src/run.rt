@@ -3,17 +3,18 @@
 ghost use Rattle.std.specs.Prelude.{◌≡◌, ◌<◌, ℕ, List, [], length, slice_get, Some, IfOk};
 ghost use Rattle.shade_group.specs.Group.{run};
 ghost use Rattle.shade_group.specs.Seen.{machine_of};
+ghost use Rattle.shade_files.specs.Changes.{shelf_change};
 ghost use Rattle.shade_top.specs.Answer.{inputs as run_inputs, IsRan, outcome, refused_job as refused_job_answer, run_status, Runs};
-ghost use Rattle.shade_top.specs.Changes.{shelf_change};
 ghost use Rattle.shade_top.specs.Ready.{IsReady};
 ghost use Rattle.shade_top.specs.Report.{answer_of, RunOutcome};
 ghost use Rattle.shade_top.specs.Text.{IsModuleOf};
 
 use crate::ready::first_form_is_ready;
-use crate::report::{Report, has_error, read, refused, unread, verdict};
+use crate::report::{Report, has_error, refused, unread, verdict};
 use crate::text::{Reading, read_shader};
 use shade_base::{Shelf, Status};
 use shade_core::CoreModule;
+use shade_files::read;
 use shade_group::{Group, RunEnd};
 use shade_job::{JobFault, MOST_BYTES, read_steps};
 use shade_mem::Inputs;

@@ -1,14 +1,15 @@
 //! The top call.
 
 ghost use Rattle.std.specs.Prelude.{◌≡◌, ◌≤◌, length};
-ghost use Rattle.shade_top.specs.Changes.{shelf_change, sink_change};
+ghost use Rattle.shade_files.specs.Changes.{shelf_change, sink_change};
 ghost use Rattle.shade_top.specs.Request.{texts_of};
-ghost use Rattle.shade_top.specs.Serves.{IsWritten, Serves};
+ghost use Rattle.shade_top.specs.Serves.{Serves};
 
 use crate::ready::{clean_without_errors, first_form_is_ready};
 use crate::report::report_on;
 use crate::request::request_of;
 use shade_base::{Shelf, Sink, Status};
+use shade_files::written;
 use shade_sound::clean_never_diverges;
 use std::alloc::{AllocError, Global};
 
@@ -39,16 +40,5 @@ pub fn serve<H: Shelf, K: Sink>(
     match report_on(alloc, request, shelf) {
         Ok(report) => written(out, report.status, &report.text),
         Err(AllocError) => Status::NO_MEMORY,
-    }
-}
-
-/// Writes a text, and ends with its status, or with that of a failed write.
-fn written<K: Sink>(out: &mut K, status: Status, text: &[u8]) -> Status
-    requires { 1 ≤ length text.now }
-    ensures { IsWritten (record { status = status.0; text = text.now }) (sink_change K.taken K.faults out.old out.new) result.0 }
-{
-    match out.write(text) {
-        Ok(()) => status,
-        Err(_) => Status::UNWRITTEN,
     }
 }

@@ -1,0 +1,4 @@
+-- Rules: Changes, Reads, Writes.
+pub mod Changes
+pub mod Reads
+pub mod Writes
