@@ -3,26 +3,16 @@
 #![tactic(auto)]
 
 #[cfg(test)]
-mod aliases;
-#[cfg(test)]
 mod flow;
 #[cfg(test)]
 mod graph;
-#[cfg(test)]
-mod limits;
 #[cfg(test)]
 mod overload;
 #[cfg(test)]
 mod reach;
 #[cfg(test)]
-mod rules;
-#[cfg(test)]
-mod shape;
-#[cfg(test)]
 mod values;
 #[cfg(test)]
 mod verdict;
-#[cfg(test)]
-mod whole;
 #[cfg(test)]
 mod words;

@@ -1,0 +1,15 @@
+//! Tests of the shape of core modules, of their behaviours and of the aliases of their calls. Each file tests one crate by its public
+//! items alone, so that the crate itself is proved once and not once more with its tests; `limits` has the modules of `whole` that
+//! stand at a limit.
+#![tactic(auto)]
+
+#[cfg(test)]
+mod aliases;
+#[cfg(test)]
+mod limits;
+#[cfg(test)]
+mod rules;
+#[cfg(test)]
+mod shape;
+#[cfg(test)]
+mod whole;
