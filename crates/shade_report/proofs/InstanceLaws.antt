@@ -5,7 +5,7 @@ use Rattle.std.specs.List.{flat_map}
 use Rattle.std.proofs.lemmas.List.{append_assoc, length-append, length-drop}
 use Rattle.std.proofs.Math.Seq.{take-append_seam, drop-append_seam, take-length}
 use Rattle.shade_core.specs.declared.module.CoreFunction.{CoreFunction}
-use Rattle.shade_core.specs.Frames.{Frame, frame_words, frame_length}
+use Rattle.shade_core.specs.Frames.{Frame, frame_words}
 use Rattle.shade_report.specs.RunReport.{OfTurn, frames_from, frames_of, release_line, release_lines}
 use Rattle.shade_report.specs.Frames.{FramesAreRead}
 
@@ -78,7 +78,7 @@ read_frames [] = refl
 read_frames (f ∷ frames) = frame_front f (flat_map frame_words frames) ∙ ap (λ fs. f ∷ fs) (read_frames frames)
 
 pub frames_are_read : FramesAreRead
-frames_are_read = record { read = read_frames; one = λ frames others e. sym (read_frames frames) ∙ (ap frames_of e ∙ read_frames others); lengths = λ f. refl }
+frames_are_read = record { read = read_frames; one = λ frames others e. sym (read_frames frames) ∙ (ap frames_of e ∙ read_frames others); lengths = λ f. omega arith }
 
 releases_from : (functions : List CoreFunction) (instances : List (List ℕ)) (k number : ℕ) (instance : List ℕ) → slice_get instances k ≡ Some instance → release_lines functions number (drop k instances) ≡ release_line functions number instance ++ release_lines functions (number + 1) (drop (suc k) instances)
 releases_from functions [] k number instance is = absurd (cc)
