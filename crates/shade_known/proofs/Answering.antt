@@ -1,5 +1,6 @@
 -- One answer that leads to another.
 use Rattle.std.proofs.Common.{◌≡◌, sym, ap, subst, ◌∙◌, Bool, List, map, Option, Some, None, Result, Ok, Err}
+use Rattle.shade_base.specs.declared.place.Place.{Place}
 use Rattle.shade_values.specs.declared.types.Scalar.{Scalar}
 use Rattle.shade_values.specs.declared.types.ShadeType.{ShadeType}
 use Rattle.shade_values.specs.declared.value.Value.{Value}
@@ -15,9 +16,9 @@ use Rattle.shade_known.specs.declared.fault.TypingFault.{TypingFault}
 use Rattle.shade_known.specs.declared.fault.TypingFault.TheVariants as fault
 use Rattle.shade_known.specs.declared.fault.TypeRule.TheVariants as rule
 use Rattle.shade_known.specs.Answers.{Answers}
-use Rattle.shade_known.specs.Lookups.{types_of, type_of_node, value_of_node}
+use Rattle.shade_known.specs.Lookups.{first_untyped, types_of, type_of_node, value_of_node}
 use Rattle.shade_known.specs.Conversions.{IsConversion, ConvertsTo, taken}
-use Rattle.shade_known.specs.Operates.{concrete, row_value, without_value, no_overload, ByValue, Again, Operates}
+use Rattle.shade_known.specs.Operates.{concrete, row_value, without_value, no_overload, ByValue, Again, ByTypes, OperatesBy, Operates}
 
 pub answers_on : {A : Type 0} {P Q : Result A TypingFault → Type 0} (r : Result A TypingFault) → ((x : Result A TypingFault) → P x → Q x) → Answers P r → Answers Q r
 answers_on (Ok a) f p = f (Ok a) p
@@ -73,11 +74,17 @@ module _ (k : Known) (a : Application) (os : List Operand) where
       answers_by (Again k a os) r (subst (Again k a os) (sym is)
       (Again.one_row o (subst (λ z. IsBest (IsRow k.types a.builtin) (first_choice a.builtin) z o) (is_ts ∙ is_settled ∙ ap (map concrete) is_types) h)))
 
-  pub operates_none : (types ts : List ShadeType) → types ≡ types_of k os → ts ≡ types → IsRefused (IsRow k.types a.builtin) ts → Operates k a os (no_overload a.at)
-  operates_none types ts is_types is_ts h = Operates.refused (subst (IsRefused (IsRow k.types a.builtin)) (is_ts ∙ is_types) h)
+  pub types_none : (types ts : List ShadeType) → types ≡ types_of k os → ts ≡ types → IsRefused (IsRow k.types a.builtin) ts → ByTypes k a os (no_overload a.at)
+  types_none types ts is_types is_ts h = ByTypes.refused (subst (IsRefused (IsRow k.types a.builtin)) (is_ts ∙ is_types) h)
 
-  pub operates_some : (types ts : List ShadeType) (o : Overload) (r : Result Found TypingFault) → types ≡ types_of k os → ts ≡ types
-      → IsBest (IsRow k.types a.builtin) (first_choice a.builtin) ts o → Answers (ByValue (row_value k a os o) k a os o) r → Answers (Operates k a os) r
-  operates_some types ts o r is_types is_ts h p =
-      answers_on {P = ByValue (row_value k a os o) k a os o} {Q = Operates k a os} r
-      (λ x q. Operates.chosen o x (subst (λ z. IsBest (IsRow k.types a.builtin) (first_choice a.builtin) z o) (is_ts ∙ is_types) h) q) p
+  pub types_some : (types ts : List ShadeType) (o : Overload) (r : Result Found TypingFault) → types ≡ types_of k os → ts ≡ types
+      → IsBest (IsRow k.types a.builtin) (first_choice a.builtin) ts o → Answers (ByValue (row_value k a os o) k a os o) r → Answers (ByTypes k a os) r
+  types_some types ts o r is_types is_ts h p =
+      answers_on {P = ByValue (row_value k a os o) k a os o} {Q = ByTypes k a os} r
+      (λ x q. ByTypes.chosen o x (subst (λ z. IsBest (IsRow k.types a.builtin) (first_choice a.builtin) z o) (is_ts ∙ is_types) h) q) p
+
+  pub operates_by : (o : Option Place) (r : Result Found TypingFault) → o ≡ first_untyped k os → OperatesBy o k a os r → Operates k a os r
+  operates_by o r is h = subst (λ z. OperatesBy z k a os r) is h
+
+  pub typed_operates : (r : Result Found TypingFault) → None ≡ first_untyped k os → Answers (ByTypes k a os) r → Answers (Operates k a os) r
+  typed_operates r is h = answers_on {P = ByTypes k a os} {Q = Operates k a os} r (λ x q. operates_by None x is q) h

@@ -1,6 +1,7 @@
 -- From what is known, each question has one answer.
 use Rattle.std.proofs.Common.{◌≡◌, refl, sym, ap, subst, ◌∙◌, Bool, true, false, List, map, Option, Some, None, Result, Ok, Err}
 use Rattle.std.specs.List.{list_any}
+use Rattle.shade_base.specs.declared.place.Place.{Place}
 use Rattle.shade_values.specs.declared.value.Value.{Value}
 use Rattle.shade_overload.specs.declared.overload.Overload.{Overload}
 use Rattle.shade_overload.specs.Laws.{AtMostOneIsBest}
@@ -10,9 +11,9 @@ use Rattle.shade_known.specs.declared.known.Known.{Known}
 use Rattle.shade_known.specs.declared.known.Found.{Found}
 use Rattle.shade_known.specs.declared.operation.Application.{Application}
 use Rattle.shade_known.specs.declared.fault.TypingFault.{TypingFault}
-use Rattle.shade_known.specs.Lookups.{types_of, value_of_node}
+use Rattle.shade_known.specs.Lookups.{first_untyped, types_of, value_of_node}
 use Rattle.shade_known.specs.Conversions.{Converts, no_value, cannot, can, taken}
-use Rattle.shade_known.specs.Operates.{concrete, is_abstract, row_value, without_value, ByParams, ByValue, Again, no_row, one_row, Operates, refused, chosen}
+use Rattle.shade_known.specs.Operates.{concrete, is_abstract, row_value, without_value, ByParams, ByValue, Again, no_row, one_row, ByTypes, refused, chosen, OperatesBy, Operates}
 use Rattle.shade_known.specs.Laws.{OperatesInOneWay, ConvertsInOneWay}
 use Rattle.shade_known.proofs.Becoming.{becomes_one}
 
@@ -36,13 +37,20 @@ module _ (one : AtMostOneIsBest) (k : Known) (a : Application) (os : List Operan
   value_one (Ok None) o r s p q = params_one (list_any is_abstract o.params) o r s p q
   value_one (Err e) o r s p q = both p q
 
-  pub operates_one : (r s : Result Found TypingFault) → Operates k a os r → Operates k a os s → r ≡ s
-  operates_one r s (refused h) (refused g) = refl
-  operates_one r s (refused h) (chosen o x best by) = absurd (h o best.row best.taken)
-  operates_one r s (chosen o x best by) (refused h) = absurd (h o best.row best.taken)
-  operates_one r s (chosen o x best by) (chosen p y other too) =
+  types_one : (r s : Result Found TypingFault) → ByTypes k a os r → ByTypes k a os s → r ≡ s
+  types_one r s (refused h) (refused g) = refl
+  types_one r s (refused h) (chosen o x best by) = absurd (h o best.row best.taken)
+  types_one r s (chosen o x best by) (refused h) = absurd (h o best.row best.taken)
+  types_one r s (chosen o x best by) (chosen p y other too) =
       let same : o ≡ p = one k.types a.builtin (first_choice a.builtin) (types_of k os) o p best other in
       value_one (row_value k a os p) p r s (subst (λ z. ByValue (row_value k a os z) k a os z r) same by) too
+
+  operates_by_one : (o : Option Place) (r s : Result Found TypingFault) → OperatesBy o k a os r → OperatesBy o k a os s → r ≡ s
+  operates_by_one (Some place) r s p q = both p q
+  operates_by_one None r s p q = types_one r s p q
+
+  pub operates_one : (r s : Result Found TypingFault) → Operates k a os r → Operates k a os s → r ≡ s
+  operates_one r s p q = operates_by_one (first_untyped k os) r s p q
 
 pub operates_in_one_way : AtMostOneIsBest → OperatesInOneWay
 operates_in_one_way one k a os r s p q = operates_one one k a os r s p q

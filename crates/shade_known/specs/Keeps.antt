@@ -1,4 +1,5 @@
--- Rule: what is found of a node is known from then on, and of no other node anything else. Its type has an id, new or not.
+-- Rule: what is found of a node is known from then on in place of what was known of it, and of no other node anything else. Its type has an
+-- id, new or not. Where nothing is found, all stays as it was: a node of which more is asked keeps what it is.
 use Rattle.std.specs.Prelude.{◌≡◌, ℕ, List, Option, Some, slice_get, slice_set}
 use Rattle.shade_base.specs.declared.place.Place.{Place}
 use Rattle.shade_values.specs.declared.types.ShadeType.{ShadeType}

@@ -1,7 +1,8 @@
 -- Rule: what is known of the nodes of a tree, looked up. Of a node of which nothing is known there is no type and no value.
-use Rattle.std.specs.Prelude.{ℕ, Bool, false, List, [], ◌∷◌, Option, None, Some, slice_get}
+use Rattle.std.specs.Prelude.{ℕ, Bool, false, List, [], ◌∷◌, Option, None, Some, is_some, slice_get, if◌then◌else◌}
 use Rattle.std.specs.List.{flat_map}
 use Rattle.std.specs.Option.{option_flatten}
+use Rattle.shade_base.specs.declared.place.Place.{Place}
 use Rattle.shade_values.specs.declared.types.ShadeType.{ShadeType}
 use Rattle.shade_values.specs.declared.value.Value.{Value}
 use Rattle.shade_values.specs.Table.{Table}
@@ -34,7 +35,12 @@ abbrev pub one_or_none : {A : Type 0} → Option A → List A
 one_or_none None = []
 one_or_none (Some a) = a ∷ []
 
--- the types of some operands; each operand that an operator is asked of is a value
+-- the place of the first operand that is no value, and names none
+abbrev pub first_untyped : Known → List Operand → Option Place
+first_untyped k [] = None
+first_untyped k (o ∷ os) = if is_some (type_of_node k o.node) then first_untyped k os else Some o.place
+
+-- the types of some operands
 abbrev pub types_of : Known → List Operand → List ShadeType
 types_of k operands = flat_map (λ o. one_or_none (type_of_node k o.node)) operands
 

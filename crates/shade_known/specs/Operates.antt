@@ -1,5 +1,6 @@
 -- Rule: what an operator or a built-in function gives of its operands. (WGSL, "Overload Resolution", "Const-Expressions" and "Short-circuit
--- Evaluation".) The row of the table that is nearest to the types decides; where none takes them the rule of overloads fails at its place.
+-- Evaluation".) An operand that is no value fails the rule of conversions at its place. The row of the table that is nearest to the types
+-- decides; where none takes them the rule of overloads fails at the place of the operator or function.
 use Rattle.std.specs.Prelude.{◌≡◌, Bool, true, false, List, ◌∷◌, Option, None, Some, map, Result, Ok, Err, if◌then◌else◌}
 use Rattle.std.specs.List.{list_any}
 use Rattle.shade_base.specs.declared.place.Place.{Place}
@@ -25,7 +26,7 @@ use Rattle.shade_known.specs.declared.operation.Application.{Application}
 use Rattle.shade_known.specs.declared.fault.TypingFault.{TypingFault}
 use Rattle.shade_known.specs.declared.fault.TypingFault.TheVariants as fault
 use Rattle.shade_known.specs.declared.fault.TypeRule.TheVariants as rule
-use Rattle.shade_known.specs.Lookups.{types_of, values_of, value_of_node}
+use Rattle.shade_known.specs.Lookups.{first_untyped, types_of, values_of, value_of_node}
 use Rattle.shade_known.specs.Conversions.{cut_all}
 
 -- ---- what a row asks and gives
@@ -132,7 +133,20 @@ ByValue (Ok (Some v)) k a operands o r = r ≡ Ok (found_of o (Some v))
 ByValue (Ok None) k a operands o r = ByParams (list_any is_abstract o.params) k a operands o r
 ByValue (Err f) k a operands o r = r ≡ Err f
 
-pub data Operates (k : Known) (a : Application) (operands : List Operand) : Result Found TypingFault → Type 0 where
-  refused : IsRefused (IsRow k.types a.builtin) (types_of k operands) → Operates k a operands (no_overload a.at)
+pub data ByTypes (k : Known) (a : Application) (operands : List Operand) : Result Found TypingFault → Type 0 where
+  refused : IsRefused (IsRow k.types a.builtin) (types_of k operands) → ByTypes k a operands (no_overload a.at)
   chosen : (o : Overload) (r : Result Found TypingFault) → IsBest (IsRow k.types a.builtin) (first_choice a.builtin) (types_of k operands) o
-      → ByValue (row_value k a operands o) k a operands o r → Operates k a operands r
+      → ByValue (row_value k a operands o) k a operands o r → ByTypes k a operands r
+
+-- ---- operands that are no values
+
+abbrev pub no_value : Place → Result Found TypingFault
+no_value place = Err (fault.Rule place rule.Conversion)
+
+-- an operand that is no value is told at its place, and else the row
+abbrev pub OperatesBy : Option Place → Known → Application → List Operand → Result Found TypingFault → Type 0
+OperatesBy (Some place) k a operands r = r ≡ no_value place
+OperatesBy None k a operands r = ByTypes k a operands r
+
+abbrev pub Operates : Known → Application → List Operand → Result Found TypingFault → Type 0
+Operates k a operands r = OperatesBy (first_untyped k operands) k a operands r

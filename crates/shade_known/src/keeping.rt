@@ -5,9 +5,9 @@ ghost use Rattle.shade_values.specs.Sound.{IsOf};
 ghost use Rattle.shade_known.specs.Keeps.{IsIdOf, IsLargeIn, IsFoundLarge, IsFoundOf, IsUnkept, Keeps, with_fact};
 
 use crate::fault::{TypeRule, TypingFault};
-use crate::known::{Facts, Found, Known, What};
+use crate::known::{Facts, Found, Known, Part, What};
 use shade_base::Place;
-use shade_values::{ShadeType, TableFault, TypeId, TypeTable};
+use shade_values::{Access, ShadeType, Space, TableFault, TypeId, TypeTable, Value};
 
 /// Replaces what is known of a node. A number of no node changes nothing.
 fn put(facts: &mut Facts, node: u32, what: What)
@@ -48,7 +48,21 @@ fn refuse<H: Drop>(fault: TypingFault, held: H) -> Result<(), TypingFault>
     Err(fault)
 }
 
-/// Keeps what is found of a node: its type gets an id, new or not, and the node has the fact in place of what was known of it.
+/// What is known of a node that names memory.
+fn reference_of(ty: TypeId, space: Space, access: Access, part: Part, value: Option<Value>) -> What
+    ensures { result ≡ What.Reference ty space access part value }
+{
+    What::Reference {
+        ty,
+        space,
+        access,
+        part,
+        value,
+    }
+}
+
+/// Keeps what is found of a node: its type gets an id, new or not, and the node has the fact in place of what was known of it. Where
+/// nothing is found, what was known of it stays.
 ///
 /// `Size` at the place exactly where the type has too many bytes; want of memory also where the table is full. All is as it was then.
 pub fn keep(known: &mut Known, node: u32, place: Place, found: Found) -> Result<(), TypingFault>
@@ -70,16 +84,11 @@ pub fn keep(known: &mut Known, node: u32, place: Place, found: Found) -> Result<
             part,
             value,
         } => match id_of(&mut known.types, place, ty) {
-            Ok(id) => {
-                let what = What::Reference {
-                    ty: id,
-                    space,
-                    access,
-                    part,
-                    value,
-                };
-                put(&mut known.facts, node, what);
-            }
+            Ok(id) => put(
+                &mut known.facts,
+                node,
+                reference_of(id, space, access, part, value),
+            ),
             Err(fault) => return refuse(fault, value),
         },
         Found::Type { ty, bad_access } => {

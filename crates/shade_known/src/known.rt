@@ -122,7 +122,7 @@ pub enum Found {
     },
     /// Something that names no type, or types of the table alone.
     Known(What),
-    /// It has no value, and is nothing else that is told.
+    /// Nothing beyond what is known of it; a call without a result has no value.
     Nothing,
 }
 

@@ -5,9 +5,10 @@ ghost use Rattle.std.specs.Option.{option_copied};
 ghost use Rattle.shade_values.specs.Layouts.{is_loadable as loadable};
 ghost use Rattle.shade_values.specs.Shape.{shape_of};
 ghost use Rattle.shade_values.specs.Sound.{IsOf, IsOver};
-ghost use Rattle.shade_known.specs.Lookups.{what_in, type_in, type_of_node, value_of_node, types_of, values_of, is_idle};
+ghost use Rattle.shade_known.specs.Lookups.{what_in, type_in, type_of_node, value_of_node, first_untyped, types_of, values_of, is_idle};
 
 use crate::known::{Facts, Known, Operand, What};
+use shade_base::Place;
 use shade_values::{ShadeType, TypeId, TypeTable, Value, copy_value};
 use sqlite_items::Items;
 use std::alloc::{AllocError, Global};
@@ -77,6 +78,18 @@ pub fn is_loadable(table: &TypeTable, id: TypeId) -> bool
         return table.is_loadable(id);
     }
     false
+}
+
+/// The place of the first operand that is no value, and names none. Takes no memory.
+pub(crate) fn first_untyped(known: &Known, operands: &[Operand]) -> Option<Place>
+    ensures { result ≡ first_untyped known.now operands.now }
+{
+    for operand in operands {
+        if type_at(known, operand.node).is_none() {
+            return Some(operand.place);
+        }
+    }
+    None
 }
 
 /// The types of the operands that are values.

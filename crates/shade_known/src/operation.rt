@@ -6,12 +6,12 @@ ghost use Rattle.shade_values.specs.Sound.{IsOf};
 ghost use Rattle.shade_known.specs.Answers.{Answers};
 ghost use Rattle.shade_known.specs.Conversions.{cut_all};
 ghost use Rattle.shade_known.specs.Keeps.{IsFoundOf};
-ghost use Rattle.shade_known.specs.Operates.{answered, row_value, without_value, Again, ByValue, Operates};
+ghost use Rattle.shade_known.specs.Operates.{answered, row_value, without_value, Again, ByTypes, ByValue, Operates};
 
 use crate::convert::cut_all;
 use crate::fault::{TypeRule, TypingFault};
 use crate::known::{Found, Known, Operand};
-use crate::look::{types_of, values_of};
+use crate::look::{first_untyped, types_of, values_of};
 use crate::rows::{any_abstract, asked_all, concrete_all, first_unfit, found_by, places_of};
 use shade_base::Place;
 use shade_evaluate::{ConstFault, Operation, evaluate};
@@ -30,8 +30,9 @@ pub struct Application {
 /// Gives what an operator or a built-in function makes of its operands: the type and the operation of the row that is nearest to their
 /// types, and the value where all are constant and the row has an operation. AbstractInt that is no constant becomes `i32`.
 ///
-/// The rule of overloads fails at its place where no row takes the types. `Overflow` at the first constant that does not fit its parameter,
-/// and the fault of the operation at its place; nothing of these where nobody asks for it. Takes memory for types and values.
+/// The rule of conversions fails at the first operand that is no value, and the rule of overloads at its place where no row takes the
+/// types. `Overflow` at the first constant that does not fit its parameter, and the fault of the operation at its place; nothing of these
+/// two where nobody asks for it. Takes memory for types and values.
 pub fn operate(
     alloc: Global,
     known: &Known,
@@ -39,6 +40,31 @@ pub fn operate(
     operands: &[Operand],
 ) -> Result<Found, TypingFault>
     ensures answer { Answers (Operates known.now application operands.now) result }
+    ensures of { IfOk result (λ f. IsFoundOf known.now.types f) }
+{
+    match first_untyped(known, operands) {
+        Some(place) => Err(no_value(place)),
+        None => by_types(alloc, known, application, operands),
+    }
+}
+
+fn no_value(place: Place) -> TypingFault
+    ensures { result ≡ TypingFault.Rule place TypeRule.Conversion }
+{
+    TypingFault::Rule {
+        place,
+        rule: TypeRule::Conversion,
+    }
+}
+
+/// What the row gives that is nearest to the types of the operands.
+fn by_types(
+    alloc: Global,
+    known: &Known,
+    application: Application,
+    operands: &[Operand],
+) -> Result<Found, TypingFault>
+    ensures answer { Answers (ByTypes known.now application operands.now) result }
     ensures of { IfOk result (λ f. IsFoundOf known.now.types f) }
 {
     let types = types_of(alloc, known, operands)?;
