@@ -1,0 +1,6 @@
+use Rattle.std.proofs.Common.{◌∙◌, sym, ap, ◌++◌, ◌∷◌, []}
+use Rattle.shade_declared.proofs.Lists.{numbers_more}
+use Rattle.shade_declared.proofs.taking.all_numbers.Goals as goal
+
+pub loop-number-preserved : goal.loop-number-preserved
+loop-number-preserved c = c.in_ok-push.ensures.items ∙ ap (λ z. z ++ (c.loop-number.number ∷ [])) c.loop-number.invariant ∙ sym (numbers_more c.loop-number.number)
