@@ -1,0 +1,4 @@
+-- Rules: Structure, Rows, Edges.
+pub mod Structure
+pub mod Rows
+pub mod Edges
