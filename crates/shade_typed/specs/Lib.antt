@@ -1,4 +1,4 @@
--- Rules: Answers, Contexts, Fitting, Places, Rules, Sets, Simple, Values.
+-- Rules: Answers, Contexts, Rules, Simple. On the way to proofs: Fitting, Places, Sets, Values.
 pub mod Answers
 pub mod Contexts
 pub mod Fitting
