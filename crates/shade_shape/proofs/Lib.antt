@@ -5,6 +5,7 @@ mod EndLaws
 mod FactLaws
 mod KeyLaws
 mod ScopeLaws
+mod SeenLaws
 mod ShapeLaws
 mod StandingLaws
 mod TableLaws

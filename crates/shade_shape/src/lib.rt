@@ -12,6 +12,7 @@ mod names;
 mod nesting;
 mod roots;
 mod scopes;
+mod seen;
 mod signature;
 mod standing;
 mod switches;

@@ -1,37 +1,31 @@
 //! Which statements operands name.
 
-ghost use Rattle.std.specs.Prelude.{◌≡◌, ◌==◌};
-ghost use Rattle.std.specs.List.{list_all, list_any};
+ghost use Rattle.std.specs.Prelude.{◌≡◌};
+ghost use Rattle.std.specs.List.{list_all};
 ghost use Rattle.shade_core.specs.Scopes.{argument_names as argument_names_of, maybe_names as maybe_names_of, names_one as names_one_of, step_names as step_names_of, view_names as view_names_of};
 
+use crate::seen::Seen;
 use shade_core::{Argument, Operand, View, ViewStep};
 
-/// Whether a number is one of those that are seen.
-fn sees(seen: &[u32], number: u32) -> bool
-    ensures { result ≡ list_any (λ m. m == number) seen.now }
-{
-    seen.iter().any(|other| *other == number)
-}
-
 /// Whether an operand names no statement, or one that is seen. Takes no memory.
-pub(crate) fn names_one(seen: &[u32], operand: &Operand) -> bool
+pub(crate) fn names_one(seen: &Seen, operand: &Operand) -> bool
     ensures { result ≡ names_one_of seen.now operand.now }
 {
     match operand {
         Operand::Constant(_, _) | Operand::Param(_) => true,
-        Operand::Temp(number) => sees(seen, *number),
+        Operand::Temp(number) => seen.sees(*number),
     }
 }
 
 /// Whether each operand names no statement, or one that is seen. Takes no memory.
-pub(crate) fn names_all(seen: &[u32], operands: &[Operand]) -> bool
+pub(crate) fn names_all(seen: &Seen, operands: &[Operand]) -> bool
     ensures { result ≡ list_all (names_one_of seen.now) operands.now }
 {
     operands.iter().all(|operand| names_one(seen, operand))
 }
 
 /// Whether an operand, if there is one, names no statement, or one that is seen. Takes no memory.
-pub(crate) fn maybe_names(seen: &[u32], operand: &Option<Operand>) -> bool
+pub(crate) fn maybe_names(seen: &Seen, operand: &Option<Operand>) -> bool
     ensures { result ≡ maybe_names_of seen.now operand.now }
 {
     match operand {
@@ -40,7 +34,7 @@ pub(crate) fn maybe_names(seen: &[u32], operand: &Option<Operand>) -> bool
     }
 }
 
-fn step_names(seen: &[u32], step: &ViewStep) -> bool
+fn step_names(seen: &Seen, step: &ViewStep) -> bool
     ensures { result ≡ step_names_of seen.now step.now }
 {
     match step {
@@ -50,7 +44,7 @@ fn step_names(seen: &[u32], step: &ViewStep) -> bool
 }
 
 /// Whether each index of a view names no statement, or one that is seen. Takes no memory.
-pub(crate) fn view_names(seen: &[u32], view: &View) -> bool
+pub(crate) fn view_names(seen: &Seen, view: &View) -> bool
     ensures { result ≡ view_names_of seen.now view.now }
 {
     view.steps
@@ -59,7 +53,7 @@ pub(crate) fn view_names(seen: &[u32], view: &View) -> bool
         .all(|step| step_names(seen, step))
 }
 
-fn argument_names(seen: &[u32], argument: &Argument) -> bool
+fn argument_names(seen: &Seen, argument: &Argument) -> bool
     ensures { result ≡ argument_names_of seen.now argument.now }
 {
     match argument {
@@ -69,7 +63,7 @@ fn argument_names(seen: &[u32], argument: &Argument) -> bool
 }
 
 /// Whether the operands of arguments name no statement, or one that is seen. Takes no memory.
-pub(crate) fn arguments_name(seen: &[u32], arguments: &[Argument]) -> bool
+pub(crate) fn arguments_name(seen: &Seen, arguments: &[Argument]) -> bool
     ensures { result ≡ list_all (argument_names_of seen.now) arguments.now }
 {
     arguments

@@ -8,8 +8,8 @@ ghost use Rattle.shade_values.specs.Sound.{IsOver};
 use shade_values::{Name, ShadeType, TypeId, TypeTable};
 use std::alloc::{AllocError, Global};
 
-/// Depths from this one on are kept as this one.
-const TOO_DEEP: u32 = 256;
+/// The least depth that is too much. Depths from this one on are kept as this one.
+pub(crate) const TOO_DEEP: u32 = 256;
 
 fn depth_at(known: &[u32], id: TypeId) -> u32
     ensures { result ≡ depth_in known.now id }

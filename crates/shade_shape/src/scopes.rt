@@ -6,6 +6,7 @@ ghost use Rattle.shade_core.specs.Scopes.{argument_names as argument_names_of, c
 ghost use Rattle.shade_shape.specs.Within.{act_in_scope as act_in_scope_of};
 
 use crate::names::{arguments_name, maybe_names, names_all, names_one, view_names};
+use crate::seen::Seen;
 use shade_core::{Act, CoreStatement, SwitchPart};
 use sqlite_items::Items;
 use std::alloc::{AllocError, Global};
@@ -49,8 +50,8 @@ fn parts_continue(parts: &Items<SwitchPart>) -> bool
 }
 
 /// Adds the statements of a loop's body before which no Continue of the loop stands.
-fn add_unskipped(seen: &mut Vec<u32>, body: &Items<CoreStatement>) -> Result<(), AllocError>
-    ensures { OnOk result (seen.new.items ≡ seen.old.items ++ unskipped (code_of body.now)) }
+fn add_unskipped(seen: &mut Seen, body: &Items<CoreStatement>) -> Result<(), AllocError>
+    ensures { OnOk result (seen.new ≡ seen.old ++ unskipped (code_of body.now)) }
 {
     'statements: for statement in body.as_slice() {
         seen.push(statement.number)?;
@@ -63,8 +64,8 @@ fn add_unskipped(seen: &mut Vec<u32>, body: &Items<CoreStatement>) -> Result<(),
 }
 
 /// Adds the statements that stand directly in a list.
-fn add_listed(seen: &mut Vec<u32>, list: &Items<CoreStatement>) -> Result<(), AllocError>
-    ensures { OnOk result (seen.new.items ≡ seen.old.items ++ listed (code_of list.now)) }
+fn add_listed(seen: &mut Seen, list: &Items<CoreStatement>) -> Result<(), AllocError>
+    ensures { OnOk result (seen.new ≡ seen.old ++ listed (code_of list.now)) }
 {
     'statements: for statement in list.as_slice() {
         seen.push(statement.number)?;
@@ -74,9 +75,9 @@ fn add_listed(seen: &mut Vec<u32>, list: &Items<CoreStatement>) -> Result<(), Al
 
 /// Whether the operands of an act and of its parts name statements that they may. `seen` is then as before.
 #[cycle(scopes)]
-fn act_in_scope(seen: &mut Vec<u32>, act: &Act) -> Result<bool, AllocError>
-    ensures tells { IfOk result (λ b. b ≡ act_in_scope_of seen.old.items (act_code act.now 0 done)) }
-    ensures kept { IfOk result (λ b. b ≡ true → seen.new.items ≡ seen.old.items) }
+fn act_in_scope(seen: &mut Seen, act: &Act) -> Result<bool, AllocError>
+    ensures tells { IfOk result (λ b. b ≡ act_in_scope_of seen.old (act_code act.now 0 done)) }
+    ensures kept { IfOk result (λ b. b ≡ true → seen.new ≡ seen.old) }
 {
     match act {
         Act::Set { args, .. } => Ok(names_all(seen, args.as_slice())),
@@ -109,7 +110,7 @@ fn act_in_scope(seen: &mut Vec<u32>, act: &Act) -> Result<bool, AllocError>
             if !list_in_scope(seen, body)? {
                 return Ok(false);
             }
-            let count = seen.len();
+            let count = seen.count();
             add_unskipped(seen, body)?;
             if !list_in_scope(seen, continuing)? {
                 return Ok(false);
@@ -125,11 +126,11 @@ fn act_in_scope(seen: &mut Vec<u32>, act: &Act) -> Result<bool, AllocError>
 
 /// Whether the operands of a list name statements that they may. `seen` is then as before.
 #[cycle(scopes)]
-fn list_in_scope(seen: &mut Vec<u32>, list: &Items<CoreStatement>) -> Result<bool, AllocError>
-    ensures tells { IfOk result (λ b. b ≡ in_scope seen.old.items (code_of list.now)) }
-    ensures kept { IfOk result (λ b. b ≡ true → seen.new.items ≡ seen.old.items) }
+fn list_in_scope(seen: &mut Seen, list: &Items<CoreStatement>) -> Result<bool, AllocError>
+    ensures tells { IfOk result (λ b. b ≡ in_scope seen.old (code_of list.now)) }
+    ensures kept { IfOk result (λ b. b ≡ true → seen.new ≡ seen.old) }
 {
-    let count = seen.len();
+    let count = seen.count();
     'statements: for statement in list.as_slice() {
         if !act_in_scope(seen, &statement.act)? {
             return Ok(false);
@@ -142,9 +143,9 @@ fn list_in_scope(seen: &mut Vec<u32>, list: &Items<CoreStatement>) -> Result<boo
 
 /// Whether the operands of the parts of a switch name statements that they may. `seen` is then as before.
 #[cycle(scopes)]
-fn parts_in_scope(seen: &mut Vec<u32>, parts: &Items<SwitchPart>) -> Result<bool, AllocError>
-    ensures tells { IfOk result (λ b. b ≡ in_scope seen.old.items (parts_from 0 0 (map part_code parts.now))) }
-    ensures kept { IfOk result (λ b. b ≡ true → seen.new.items ≡ seen.old.items) }
+fn parts_in_scope(seen: &mut Seen, parts: &Items<SwitchPart>) -> Result<bool, AllocError>
+    ensures tells { IfOk result (λ b. b ≡ in_scope seen.old (parts_from 0 0 (map part_code parts.now))) }
+    ensures kept { IfOk result (λ b. b ≡ true → seen.new ≡ seen.old) }
 {
     'parts: for part in parts.as_slice() {
         if !list_in_scope(seen, &part.body)? {
@@ -154,11 +155,15 @@ fn parts_in_scope(seen: &mut Vec<u32>, parts: &Items<SwitchPart>) -> Result<bool
     Ok(true)
 }
 
-/// Whether each operand of a body names a statement that stands earlier in a list that holds the user, or in the body
-/// of a loop where no Continue skips it.
+/// Whether each operand of a body names a statement that stands earlier in a list that holds the user or a statement around it, or in
+/// the body of a loop where no Continue skips it.
+///
+/// Takes time in the order of the body, and for each operand that of the logarithm of the statements that it may name, where statements
+/// are numbered in structure order; in other bodies that of these statements themselves.
+/// Takes memory for the numbers of the statements that may be named at one place; an error is want of it.
 pub fn is_in_scope(alloc: Global, body: &Items<CoreStatement>) -> Result<bool, AllocError>
     ensures { IfOk result (λ b. b ≡ in_scope [] (code_of body.now)) }
 {
-    let mut seen = Vec::new(alloc);
+    let mut seen = Seen::new(alloc);
     list_in_scope(&mut seen, body)
 }

@@ -4,12 +4,9 @@ ghost use Rattle.std.specs.Prelude.{◌≡◌, ◌<◌, ◌↔◌, All, Contains
 ghost use Rattle.shade_core.specs.Types.{IsTable};
 ghost use Rattle.shade_shape.specs.Tables.{AreNested, HasScalar, HasScalars};
 
-use crate::nesting::depths_of_types;
+use crate::nesting::{TOO_DEEP, depths_of_types};
 use shade_values::{Scalar, ShadeType, TypeId, TypeTable};
 use std::alloc::{AllocError, Global};
-
-/// Depths from this one on are too much.
-const TOO_DEEP: u32 = 256;
 
 /// Whether a table holds a type. Takes no memory.
 fn holds(table: &TypeTable, ty: ShadeType) -> bool

@@ -4,4 +4,4 @@ use Rattle.shade_core.specs.Scopes.{listed}
 use Rattle.shade_shape.proofs.scopes.add_listed.Given as goal
 
 abbrev pub invariant-statements : goal.invariant-statements
-invariant-statements l = l.seen.items ++ listed (code_of (drop l.statement-index l.statement-items)) ≡ l.initial.seen.items ++ listed (code_of l.statement-items)
+invariant-statements l = l.seen ++ listed (code_of (drop l.statement-index l.statement-items)) ≡ l.initial.seen ++ listed (code_of l.statement-items)

@@ -4,4 +4,4 @@ use Rattle.shade_core.specs.Scopes.{unskipped}
 use Rattle.shade_shape.proofs.scopes.add_unskipped.Given as goal
 
 abbrev pub invariant-statements : goal.invariant-statements
-invariant-statements l = l.seen.items ++ unskipped (code_of (drop l.statement-index l.statement-items)) ≡ l.initial.seen.items ++ unskipped (code_of l.statement-items)
+invariant-statements l = l.seen ++ unskipped (code_of (drop l.statement-index l.statement-items)) ≡ l.initial.seen ++ unskipped (code_of l.statement-items)
