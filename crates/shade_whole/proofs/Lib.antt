@@ -1,5 +1,6 @@
 mod BodyLaws
 mod CallLaws
+mod CountLaws
 mod RunLaws
 mod ShapeLaws
 mod SizeLaws

@@ -1,6 +1,6 @@
 //! What the shape of a module gives the layers behind it, as functions that do nothing.
 
-ghost use Rattle.shade_whole.specs.Laws.{EntriesRun, StatementsAreNumbered};
+ghost use Rattle.shade_whole.specs.Laws.{CallsHaveOrder, EntriesRun, FunctionsAreCounted, StatementsAreNumbered};
 
 use shade_shape::entries_start;
 
@@ -16,3 +16,14 @@ pub fn entries_run()
 {
     entries_start();
 }
+
+/// The calls of a module of the shape make no cycle, and it has fewer than 2^32 functions, as is asked before aliases are looked for.
+pub fn calls_have_order()
+    ensures { CallsHaveOrder }
+{}
+
+/// In a module of the shape, each function of fewer than 2^31 statements has points, parameters and arguments with numbers of 32 bits,
+/// as is asked before what reaches its statements is searched.
+pub fn functions_are_counted()
+    ensures { FunctionsAreCounted }
+{}

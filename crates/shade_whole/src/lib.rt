@@ -9,5 +9,5 @@ mod law;
 mod outline;
 mod whole;
 
-pub use law::{entries_run, statements_are_numbered};
+pub use law::{calls_have_order, entries_run, functions_are_counted, statements_are_numbered};
 pub use whole::check_shape;
