@@ -1,0 +1,4 @@
+-- Rules: Calls, Names, Templates.
+pub mod Calls
+pub mod Names
+pub mod Templates
