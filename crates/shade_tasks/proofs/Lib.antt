@@ -1,0 +1,4 @@
+pub mod Converting
+pub mod Leading
+pub mod OneAnswer
+pub mod Operating

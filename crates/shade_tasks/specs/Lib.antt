@@ -1,0 +1,7 @@
+-- Rules: Compounds, Declared, Laws, Profile, Rules, Takes.
+pub mod Compounds
+pub mod Declared
+pub mod Laws
+pub mod Profile
+pub mod Rules
+pub mod Takes

@@ -1,0 +1,207 @@
+//! Types where one is asked, aliases, constants and `return`.
+
+ghost use Rattle.std.specs.Prelude.{◌≡◌, IfOk, IfSome};
+ghost use Rattle.shade_values.specs.Sound.{IsOf};
+ghost use Rattle.shade_values.specs.Table.{Table};
+ghost use Rattle.shade_known.specs.Answers.{Answers};
+ghost use Rattle.shade_known.specs.Keeps.{IsFoundOf};
+ghost use Rattle.shade_known.specs.Lookups.{what_in};
+ghost use Rattle.shade_typing.specs.Assignments.{IsConverted, checked};
+ghost use Rattle.shade_tasks.specs.Declared.{IsBound, IsConstant, IsReturned, alias_found, as_type, bad_place, bound, in_storage, may_be_unsized, may_stand, result_of};
+
+use crate::compounds::breaks;
+use shade_base::Place;
+use shade_calls::{declared, is_runtime_array, is_runtime_sized, written_type};
+use shade_evaluate::ConstFault;
+use shade_known::{
+    Found, Known, Operand, TypeRule, TypingFault, What, converted, type_by_id, value_at, what_at,
+};
+use shade_steps::TypeRole;
+use shade_typing::same_as;
+use shade_values::{ShadeType, Space, TypeId, Value};
+use std::alloc::Global;
+
+fn in_storage(known: &Known, space: Option<Operand>) -> bool
+    ensures { result ≡ in_storage known.now space }
+{
+    let Some(word) = space else {
+        return false;
+    };
+    match what_at(&known.facts, word.node) {
+        Some(What::Space(Space::Storage)) => true,
+        _ => false,
+    }
+}
+
+fn may_be_unsized(known: &Known, role: TypeRole, ty: ShadeType) -> bool
+    ensures { result ≡ may_be_unsized known.now role ty }
+{
+    match role {
+        TypeRole::Alias => true,
+        TypeRole::Variable(space) => in_storage(known, space),
+        TypeRole::LastMember => is_runtime_array(Some(ty)),
+        TypeRole::Other => false,
+    }
+}
+
+fn may_stand(known: &Known, role: TypeRole, ty: ShadeType) -> bool
+    requires { IsOf known.now.types ty }
+    ensures { result ≡ may_stand known.now role ty }
+{
+    if is_runtime_sized(&known.types, ty) {
+        return may_be_unsized(known, role, ty);
+    }
+    true
+}
+
+/// Whether a node is a type that may stand where it is asked: the rule of templates fails at its place where it is none, or a buffer decides its
+/// size and it may not. Takes no memory.
+pub(crate) fn used_as_type(
+    known: &Known,
+    role: TypeRole,
+    node: u32,
+    place: Place,
+) -> Result<Found, TypingFault>
+    ensures answer { result ≡ as_type known.now role node place }
+    ensures of { IfOk result (λ f. IsFoundOf known.now.types f) }
+{
+    let Some(ty) = written_type(known, node) else {
+        return Err(breaks(place, TypeRule::Template));
+    };
+    if may_stand(known, role, ty) {
+        return Ok(Found::Nothing);
+    }
+    Err(breaks(place, TypeRule::Template))
+}
+
+/// What the name of an alias is: the type. Takes memory for what is no type.
+pub(crate) fn alias(alloc: Global, known: &Known, ty: Operand) -> Result<Found, TypingFault>
+    ensures answer { Answers (λ r. r ≡ alias_found known.now ty) result }
+    ensures of { IfOk result (λ f. IsFoundOf known.now.types f) }
+{
+    Ok(declared(alloc, known, ty.node)?)
+}
+
+fn bad_place(known: &Known, ty: Option<Operand>) -> Option<Place>
+    ensures { result ≡ bad_place known.now ty }
+{
+    let Some(ty) = ty else {
+        return None;
+    };
+    match what_at(&known.facts, ty.node) {
+        Some(What::Type { bad_access, .. }) => { if *bad_access { Some(ty.place) } else { None } }
+        _ => None,
+    }
+}
+
+fn bound(ty: ShadeType, answer: Result<Option<Value>, TypingFault>) -> Result<Found, TypingFault>
+    ensures answer { result ≡ bound ty answer }
+    ensures of { (t : Table) → IsOf t ty → IfOk result (IsFoundOf t) }
+{
+    match answer {
+        Ok(value) => Ok(Found::Value {
+            ty,
+            op: None,
+            value,
+        }),
+        Err(fault) => Err(fault),
+    }
+}
+
+/// A value in the type that is written.
+fn bound_to(
+    alloc: Global,
+    known: &Known,
+    value: Operand,
+    to: Option<ShadeType>,
+) -> Result<Found, TypingFault>
+    requires { IfSome to (IsOf known.now.types) }
+    ensures answer { Answers (IsBound known.now value to) result }
+    ensures of { IfOk result (λ f. IsFoundOf known.now.types f) }
+{
+    match to {
+        Some(to) => bound(to, converted(alloc, known, false, value, to)),
+        None => Err(breaks(value.place, TypeRule::Conversion)),
+    }
+}
+
+/// What the name of a `const` is: its value, in the type that is written.
+///
+/// The rule of spaces fails at a pointer type whose access is none of its space; `NotConstant` at a value that is no constant; the rule of
+/// conversions fails at a value that does not convert, and `Overflow` is at one that does not fit. Takes memory for the value.
+pub(crate) fn constant(
+    alloc: Global,
+    known: &Known,
+    ty: Option<Operand>,
+    value: Operand,
+) -> Result<Found, TypingFault>
+    ensures answer { Answers (IsConstant known.now ty value) result }
+    ensures of { IfOk result (λ f. IsFoundOf known.now.types f) }
+{
+    if let Some(place) = bad_place(known, ty) {
+        return Err(breaks(place, TypeRule::Space));
+    }
+    let Some(_) = value_at(&known.facts, value.node) else {
+        return Err(TypingFault::Constant(ConstFault::NotConstant(value.place)));
+    };
+    match ty {
+        Some(ty) => bound_to(alloc, known, value, written_type(known, ty.node)),
+        None => Ok(same_as(alloc, known, value.node)?),
+    }
+}
+
+fn checked(answer: Result<Option<Value>, TypingFault>) -> Result<Found, TypingFault>
+    ensures answer { result ≡ checked answer }
+    ensures of { (t : Table) → IfOk result (IsFoundOf t) }
+{
+    match answer {
+        Ok(_) => Ok(Found::Nothing),
+        Err(fault) => Err(fault),
+    }
+}
+
+/// Whether a value converts to a type.
+fn converts(
+    alloc: Global,
+    known: &Known,
+    value: Operand,
+    to: Option<ShadeType>,
+) -> Result<Found, TypingFault>
+    ensures answer { Answers (IsConverted known.now value to) result }
+    ensures of { IfOk result (λ f. IsFoundOf known.now.types f) }
+{
+    match to {
+        Some(to) => checked(converted(alloc, known, false, value, to)),
+        None => Err(breaks(value.place, TypeRule::Conversion)),
+    }
+}
+
+fn result_of(known: &Known, function: u32) -> Option<TypeId>
+    ensures { result ≡ result_of (what_in known.now.facts function) }
+{
+    match what_at(&known.facts, function) {
+        Some(What::Function { result: given, .. }) => *given,
+        _ => None,
+    }
+}
+
+/// Whether a `return` at a place may stand in a function: the rule of signatures fails there where it has a value and none is asked, or lacks one; the
+/// rule of conversions at a value that does not convert to the type of the result, and `Overflow` is at one that does not fit. Takes memory
+/// for the value.
+pub(crate) fn returned(
+    alloc: Global,
+    known: &Known,
+    function: u32,
+    value: Option<Operand>,
+    place: Place,
+) -> Result<Found, TypingFault>
+    ensures answer { Answers (IsReturned known.now (result_of (what_in known.now.facts function)) value place) result }
+    ensures of { IfOk result (λ f. IsFoundOf known.now.types f) }
+{
+    match (result_of(known, function), value) {
+        (None, None) => Ok(Found::Nothing),
+        (None, Some(_)) => Err(breaks(place, TypeRule::Signature)),
+        (Some(_), None) => Err(breaks(place, TypeRule::Signature)),
+        (Some(id), Some(value)) => converts(alloc, known, value, type_by_id(&known.types, id)),
+    }
+}
