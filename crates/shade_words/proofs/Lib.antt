@@ -12,3 +12,6 @@ pub mod TakeLaws
 pub mod RowLaws
 pub mod PartLaws
 pub mod MakeLaws
+pub mod ValueLaws
+pub mod ValueWords
+pub mod MoveLaws

@@ -71,6 +71,16 @@ leaf_back s l ok h =
     let told : wrapped s (pos (word l.number)) ≡ l.number = subst (λ x. wrapped s (pos (word x)) ≡ x) ranged (back s ok l.number) in
     ap (λ n. record { scalar = s; number = n }) told ∙ sym (leaf_is l s l.number h.0 refl)
 
+word_modulo : (w : ℕ) → word (pos w) ≡ w % 2 ^ 32
+word_modulo w = omega arith
+
+-- a word is told, as far as 32 bits go, by the scalar that it is, where the scalar has it
+pub back_word : (s : Scalar) (w : ℕ) → s ≢ scalar.Abstract → IsFit s w → word_of (leaf_of s w) ≡ w % 2 ^ 32
+back_word scalar.Bool w ok fit = omega (arith, fit)
+back_word scalar.U32 w ok fit = word_small (word (pos w)) (word_less (pos w)) ∙ word_modulo w
+back_word scalar.I32 w ok fit = ap word (signed_by_word (pos w)) ∙ (signed_word (word (pos w)) (word_less (pos w)) ∙ word_modulo w)
+back_word scalar.Abstract w ok fit = absurd (ok refl)
+
 pub word_fits : (s : Scalar) (l : Leaf) → IsLeafOf s l → IsFit s (word_of l)
 word_fits scalar.Bool l h =
     let ranged : wrapped scalar.Bool l.number ≡ l.number = subst (λ x. wrapped x l.number ≡ l.number) h.0 h.1 in

@@ -18,3 +18,9 @@ pub record Written (l : Lay) (v : Value) (old new : List ℕ) (at : ℕ) : Type 
   pub value : decode l (slice_index new) at ≡ v
   pub padding : (i : ℕ) → i < size l → ¬ Covers l i → slice_index new (at + i) ≡ 0
   pub others : (j : ℕ) → (j < at) ⊎ (at + size l ≤ j) → slice_index new j ≡ slice_index old j
+
+-- a value that came to a place: padding there is as it was, and no other word has changed
+pub record Put (l : Lay) (v : Value) (old new : List ℕ) (at : ℕ) : Type 0 where
+  pub value : decode l (slice_index new) at ≡ v
+  pub padding : (i : ℕ) → i < size l → ¬ Covers l i → slice_index new (at + i) ≡ slice_index old (at + i)
+  pub others : (j : ℕ) → (j < at) ⊎ (at + size l ≤ j) → slice_index new j ≡ slice_index old j

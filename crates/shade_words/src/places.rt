@@ -2,6 +2,7 @@
 
 ghost use Rattle.std.specs.Prelude.{ℕ, ◌≡◌, ◌≢◌, ◌+◌, ◌*◌, ◌<◌, ◌≤◌, ◌↔◌, IsTrue, IfSome, IfNone, length};
 ghost use Rattle.shade_values.specs.Sound.{IsSound};
+ghost use Rattle.shade_values.specs.Table.{members_at};
 ghost use Rattle.shade_words.specs.Lays.{size, Covers};
 ghost use Rattle.shade_words.specs.Types.{lay, type_of, HasElements, HasParts};
 ghost use Rattle.shade_words.specs.Ways.{part_offset, part_count};
@@ -31,6 +32,32 @@ pub fn part_offset(types: &TypeTable, ty: TypeId, k: usize) -> usize
         ShadeType::Array(_, _) => k * words_of(layout.stride),
         ShadeType::Struct(number) => member_offset(types, number, k),
         _ => 0,
+    }
+}
+
+/// How many members a struct has.
+fn member_count(types: &TypeTable, number: u32) -> usize
+    requires { number < length types.now.structs }
+    ensures { result ≡ length (members_at types.now.structs number) }
+{
+    types.members(number).len()
+}
+
+/// Gives how many parts a value of a type has, as its layout says: one of a runtime-sized array. Takes no memory.
+pub fn part_count(types: &TypeTable, ty: TypeId) -> usize
+    requires { ty.0 < length types.now.types }
+    ensures count { result ≡ part_count (lay types.now ty) }
+    ensures sound { IsSound types.now }
+{
+    match *types.get(ty) {
+        ShadeType::Plain(_) => 0,
+        ShadeType::Vector(count, _) => usize::from(count),
+        ShadeType::Array(_, count) => count as usize,
+        ShadeType::RuntimeArray(_) => 1,
+        ShadeType::Atomic(_) => 0,
+        ShadeType::Struct(number) => member_count(types, number),
+        ShadeType::Exchanged(_) => 2,
+        ShadeType::Pointer(_, _, _) => 0,
     }
 }
 
