@@ -1,7 +1,7 @@
 //! The names of a text.
 
 ghost use Rattle.std.specs.Prelude.{◌≡◌, ◌<◌, ◌^◌, [], Some, length, slice_get, IfOk, OnOk, OnErr};
-ghost use Rattle.shade_ast.specs.Names.{number_in, with_name, IsDistinct, Grows};
+ghost use Rattle.shade_ast.specs.Names.{number_in, with_name, IsDistinct};
 
 use crate::name_key::NameKey;
 use indexmap::IndexSet;
@@ -50,8 +50,6 @@ impl Names {
         requires { length self.old < 2 ^ 32 }
         ensures number { IfOk result (λ n. n ≡ number_in self.old text.now) }
         ensures names { OnOk result (self.new ≡ with_name self.old text.now) }
-        ensures stored { IfOk result (λ n. slice_get self.new n ≡ Some text.now) }
-        ensures grows { Grows self.old self.new }
         ensures distinct { IsDistinct self.new }
         ensures err { OnErr result (self.new ≡ self.old) }
     {

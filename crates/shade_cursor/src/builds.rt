@@ -26,7 +26,10 @@ pub fn number(names: &mut Names, text: &str) -> Result<u32, Fault>
     ensures grows { Grows names.old names.new }
     ensures few { length names.new ≤ length names.old + 1 }
 {
-    names.number(text).map_err(|_| Fault::NoMemory)
+    match names.number(text) {
+        Ok(number) => Ok(number),
+        Err(_) => Err(Fault::NoMemory),
+    }
 }
 
 fn boxed(alloc: Global, expr: Expr) -> Result<Boxed<Expr>, Fault>

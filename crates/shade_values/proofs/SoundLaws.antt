@@ -245,11 +245,6 @@ pub grows : (r : Result TypeId TableFault) (old new : Table) (ty : ShadeType) �
 grows (Ok id) old new ty added refused = subst (Grows old) (sym added) (grows_by old ty)
 grows (Err fault) old new ty added refused = subst (Grows old) (sym refused) (grows_not old)
 
--- what is found is there
-pub found_within : (r : Result TypeId TableFault) (t : Table) (ty : ShadeType) → IfOk r (λ id. slice_get t.types id.0 ≡ Some ty) → IfOk r (λ id. id.0 < length t.types)
-found_within (Ok id) t ty h = slice_get_within t.types id.0 ty h
-found_within (Err fault) t ty h = tt
-
 -- what a table sees of what it keeps: a type over its ids, a type or a struct more, and nothing new after a refusal
 pub over_entries : (entries : List Entry) (structs : List StructView) (ty : ShadeType) → IsOf (table_of entries structs) ty → IsOver (length entries) structs ty
 over_entries entries structs ty over = subst (λ n. IsOver n structs ty) (length-map entries (λ e. e.ty)) over

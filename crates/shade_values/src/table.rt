@@ -61,7 +61,6 @@ impl TypeTable {
         requires room { length self.old.types < 2 ^ 32 - 1 }
         requires parts { IsOf self.old ty }
         ensures id { IfOk result (λ id. slice_get self.new.types id.0 ≡ Some ty) }
-        ensures within { IfOk result (λ id. id.0 < length self.new.types) }
         ensures known { Contains self.old.types ty → IsOk result × (self.new ≡ self.old) }
         ensures new { ¬ Contains self.old.types ty → OnOk result (self.new ≡ with_type self.old ty) }
         ensures grows { Grows self.old self.new }

@@ -1,7 +1,7 @@
 use Rattle.std.proofs.Common.{ap, ◌∙◌, sym, subst, map}
 use Rattle.std.specs.Prelude.{string_bytes}
-use Rattle.shade_ast.specs.Names.{IsDistinct, Grows}
-use Rattle.shade_ast.proofs.NameLaws.{known_number, known_names, new_number, new_names, stored_at, names_grow, distinct_more}
+use Rattle.shade_ast.specs.Names.{IsDistinct}
+use Rattle.shade_ast.proofs.NameLaws.{known_number, known_names, new_number, new_names, distinct_more}
 use Rattle.shade_ast.proofs.names.Names.number.Goals as goal
 
 pub returns-in-Some-clause-number : goal.returns-in-Some-clause-number
@@ -20,21 +20,9 @@ pub returns-clause-names : goal.returns-clause-names
 returns-clause-names c =
     rw (← c.self.view_is, ← c.in_ok-owned.ensures.ok) (ap (λ ks. map string_bytes ks) c.in_ok-at.ensures.keys ∙ new_names string_bytes c.self.inside.texts.keys c.in_ok-owned.owned)
 
-pub returns-in-Some-clause-stored : goal.returns-in-Some-clause-stored
-returns-in-Some-clause-stored c =
-    rw (← c.self.view_is) (stored_at _ (map string_bytes c.self.inside.texts.keys) c.args.text.now c.in-Some.at (known_number string_bytes c.args.text.now c.self.inside.texts.keys c.in-Some.at c.in-Some.ensures.index) (known_names string_bytes c.args.text.now c.self.inside.texts.keys c.in-Some.ensures.found))
-
 pub invariant_of-self-2 : goal.invariant_of-self-2
 invariant_of-self-2 c =
     subst IsDistinct (sym (ap (λ ks. map string_bytes ks) c.in_ok-at.ensures.keys ∙ new_names string_bytes c.self.inside.texts.keys c.in_ok-owned.owned)) (distinct_more (map string_bytes c.self.inside.texts.keys) (string_bytes c.in_ok-owned.owned) c.self.invariant)
-
-pub returns-clause-stored : goal.returns-clause-stored
-returns-clause-stored c =
-    rw (← c.in_ok-owned.ensures.ok) (stored_at (map string_bytes c.self.inside.texts.keys) _ (string_bytes c.in_ok-owned.owned) c.in_ok-at.at (c.in_ok-at.ensures.index ∙ new_number string_bytes (string_bytes c.in_ok-owned.owned) c.self.inside.texts.keys) (ap (λ ks. map string_bytes ks) c.in_ok-at.ensures.keys ∙ new_names string_bytes c.self.inside.texts.keys c.in_ok-owned.owned))
-
-pub returns-clause-grows : goal.returns-clause-grows
-returns-clause-grows c =
-    rw (← c.self.view_is) (subst (Grows (map string_bytes c.self.inside.texts.keys)) (sym (ap (λ ks. map string_bytes ks) c.in_ok-at.ensures.keys ∙ new_names string_bytes c.self.inside.texts.keys c.in_ok-owned.owned)) (names_grow (map string_bytes c.self.inside.texts.keys) (string_bytes c.in_ok-owned.owned)))
 
 pub returns-clause-distinct : goal.returns-clause-distinct
 returns-clause-distinct c =

@@ -1,5 +1,5 @@
 use Rattle.std.proofs.Common.{arith}
-use Rattle.shade_values.proofs.SoundLaws.{known_small, added_id, grows, found_within}
+use Rattle.shade_values.proofs.SoundLaws.{known_small, added_id, grows}
 use Rattle.shade_values.proofs.table.TypeTable.add.Goals as goal
 
 pub returns-in-Some-clause-large : goal.returns-in-Some-clause-large
@@ -11,8 +11,3 @@ returns-clause-id c = added_id c.add_new.result c.args.self.now c.add_new.new.se
 
 pub returns-clause-grows : goal.returns-clause-grows
 returns-clause-grows c = grows c.add_new.result c.args.self.now c.add_new.new.self c.args.ty c.add_new.ensures.added c.add_new.ensures.refused
-
-pub returns-clause-within : goal.returns-clause-within
-returns-clause-within c =
-    found_within c.add_new.result c.add_new.new.self c.args.ty
-    (added_id c.add_new.result c.args.self.now c.add_new.new.self c.args.ty c.add_new.ensures.id c.add_new.ensures.added)
