@@ -32,7 +32,8 @@ fn size_place(task: &Task, place: Place) -> Place
 
 /// Takes steps in order, keeps what each finds of its node, and gives how many it took: all, or those before the first that is not asked here.
 ///
-/// Gives the fault of the first step whose rule fails. Takes memory for types, for values, and for a word that is told.
+/// Gives the fault of the first step whose rule fails; known is then what the steps before it gave. Takes memory for types, for values, and
+/// for a word that is told; at want of memory is known what some steps gave, from the first one on.
 pub fn take(
     alloc: Global,
     names: &Names,
