@@ -1,5 +1,5 @@
 -- From what is known, each step has one answer.
-use Rattle.std.proofs.Common.{◌≡◌, sym, ap, subst, ◌∙◌, ℕ, Bool, false, inl, inr, List, [], ◌∷◌, Option, None, Some, Ok, Err}
+use Rattle.std.proofs.Common.{◌≡◌, sym, ap, subst, ◌∙◌, ℕ, Bool, true, false, inl, inr, List, [], ◌∷◌, Option, None, Some, Ok, Err}
 use Rattle.std.specs.Prelude.{slice_get}
 use Rattle.shade_base.specs.declared.place.Place.{Place}
 use Rattle.shade_ast.specs.declared.stmt.OpAssign.{OpAssign}
@@ -14,6 +14,7 @@ use Rattle.shade_scope.specs.declared.scoped.Meaning.{Meaning}
 use Rattle.shade_known.specs.declared.known.Found.TheVariants as found
 use Rattle.shade_known.specs.declared.known.Known.{Known}
 use Rattle.shade_known.specs.declared.known.Operand.{Operand}
+use Rattle.shade_known.specs.declared.operation.Application.{Application}
 use Rattle.shade_known.specs.Laws.{OperatesInOneWay, ConvertsInOneWay}
 use Rattle.shade_known.specs.Lookups.{what_in, type_of_node, value_of_node, is_idle}
 use Rattle.shade_steps.specs.declared.step.Task.{Task}
@@ -23,7 +24,7 @@ use Rattle.shade_typing.specs.Operators.{applied, infix_builtin, IsPrefix}
 use Rattle.shade_typing.specs.Assignments.{checked, IsConverted}
 use Rattle.shade_calls.specs.Calls.{row_of}
 use Rattle.shade_calls.specs.Templates.{written_type}
-use Rattle.shade_tasks.specs.Compounds.{compound_builtin, AfterOperator, IsCompound}
+use Rattle.shade_tasks.specs.Compounds.{compound_builtin, AfterOperator, unless_fault, AfterTypes, IsCompound}
 use Rattle.shade_tasks.specs.Declared.{bound, IsBound, ByType, ByConstness, ByAccess, bad_place, IsConstant, IsReturned, result_of}
 use Rattle.shade_tasks.specs.Rules.{IsCall, OperationOf, NamedOf, StatementOf, DeclaredOf, ProfileOf, RuleOf}
 use Rattle.shade_tasks.specs.Laws.{StepsFindOneThing}
@@ -71,10 +72,17 @@ module _ (one : OperatesInOneWay) (converts : ConvertsInOneWay) (uses : List (Op
   after_one ty o (Ok (found.Known w)) r s p q = both p q
   after_one ty o (Ok found.Nothing) r s p q = both p q
 
+  asked_one : (told : Answer) (a : Application) (os : List Operand) (r s : Answer) → AfterTypes told k a os r → AfterTypes told k a os s → r ≡ s
+  asked_one (Err f) a os r s p q = both p q
+  asked_one (Ok f) a os r s p q = p.2 ∙ ap unless_fault (one k a os p.0 q.0 p.1 q.1) ∙ sym q.2
+
   compound_one : (operator : OpAssign) (at : Place) (target value : Operand) (r s : Answer) → IsCompound k operator at target value r → IsCompound k operator at target value s → r ≡ s
   compound_one operator at target value r s p q =
-      let same : p.0 ≡ q.0 = one k (applied (compound_builtin operator) at false) (target ∷ value ∷ []) p.0 q.0 p.1 q.1 in
-      after_one (type_of_node k target.node) value q.0 r s (subst (λ z. AfterOperator (type_of_node k target.node) value z r) same p.2) q.2
+      let same : p.0 ≡ q.0 = one k (applied (compound_builtin operator) at true) (target ∷ value ∷ []) p.0 q.0 p.2 q.2 in
+      let told : p.1 ≡ q.1 =
+      after_one (type_of_node k target.node) value q.0 p.1 q.1 (subst (λ z. AfterOperator (type_of_node k target.node) value z p.1) same p.3) q.3 in
+      asked_one q.1 (applied (compound_builtin operator) at false) (target ∷ value ∷ []) r s
+      (subst (λ z. AfterTypes z k (applied (compound_builtin operator) at false) (target ∷ value ∷ []) r) told p.4) q.4
 
   statement_one : (node : ℕ) (place : Place) (t : Task) (r s : Answer) → StatementOf k node place t r → StatementOf k node place t s → r ≡ s
   statement_one node place task.Condition r s p q = both p q

@@ -1,10 +1,11 @@
 //! Compound assignments.
 
-ghost use Rattle.std.specs.Prelude.{◌≡◌, ◌↔◌, IfOk, IsTrue, Some, false};
+ghost use Rattle.std.specs.Prelude.{◌≡◌, ◌↔◌, IfOk, IsTrue, Some};
 ghost use Rattle.shade_known.specs.Answers.{Answers};
 ghost use Rattle.shade_known.specs.Keeps.{IsFoundOf};
 ghost use Rattle.shade_values.specs.Table.{Table};
-ghost use Rattle.shade_tasks.specs.Compounds.{AfterOperator, IsCompound, compound_builtin};
+ghost use Rattle.shade_typing.specs.Operators.{applied};
+ghost use Rattle.shade_tasks.specs.Compounds.{AfterOperator, IsCompound, compound_builtin, unless_fault};
 
 use shade_ast::OpAssign;
 use shade_base::Place;
@@ -46,7 +47,7 @@ fn is_type(target: Option<ShadeType>, ty: ShadeType) -> bool
     }
 }
 
-/// What an assignment is by what its operator gives.
+/// What is told of an assignment by the type that its operator gives.
 fn after_operator(
     target: Option<ShadeType>,
     value: Operand,
@@ -67,9 +68,30 @@ fn after_operator(
     }
 }
 
+/// Nothing, or what is wrong.
+fn unless_fault(given: Result<Found, TypingFault>) -> Result<Found, TypingFault>
+    ensures answer { result ≡ unless_fault given }
+    ensures of { (t : Table) → IfOk result (IsFoundOf t) }
+{
+    match given {
+        Ok(_) => Ok(Found::Nothing),
+        Err(fault) => Err(fault),
+    }
+}
+
+fn application(operator: OpAssign, at: Place, idle: bool) -> Application
+    ensures { result ≡ applied (compound_builtin operator) at idle }
+{
+    Application {
+        builtin: compound_builtin(operator),
+        at,
+        idle,
+    }
+}
+
 /// Whether a target takes what an operator makes of it and a value: the rule of overloads fails at the operator where it does not take both, and
-/// the rule of conversions at the value where it gives another type than that of the target; `Overflow` is at a constant that does not
-/// fit. Takes memory for types and values.
+/// the rule of conversions at the value where it gives another type than that of the target; where the types are right, `Overflow` is at a
+/// constant that does not fit. Takes memory for types and values.
 pub(crate) fn compound(
     alloc: Global,
     known: &Known,
@@ -81,11 +103,9 @@ pub(crate) fn compound(
     ensures answer { Answers (IsCompound known.now operator at target value) result }
     ensures of { IfOk result (λ f. IsFoundOf known.now.types f) }
 {
-    let application = Application {
-        builtin: compound_builtin(operator),
-        at,
-        idle: false,
-    };
-    let given = operate(alloc, known, application, &[target, value]);
-    after_operator(type_at(known, target.node), value, given)
+    let operands = [target, value];
+    let typed = operate(alloc, known, application(operator, at, true), &operands);
+    after_operator(type_at(known, target.node), value, typed)?;
+    let asked = application(operator, at, false);
+    unless_fault(operate(alloc, known, asked, &operands))
 }
