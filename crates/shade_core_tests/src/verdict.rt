@@ -7,11 +7,11 @@ use shade_samples::{barrier, branch, compare, entry_of, only};
 use shade_values::Op;
 use shade_verdict::violations_of;
 use sqlite_items::Items;
-use std::alloc::{AllocError, Global};
+use std::alloc::Global;
 use std::test::Fail;
 
 /// An entry whose body is a barrier, and then `count` times `if (i < 1u) { workgroupBarrier(); }`.
-fn divergent(alloc: Global, count: u32) -> Result<CoreModule, AllocError> {
+fn divergent(alloc: Global, count: u32) -> Result<CoreModule, Fail> {
     let mut body = Items::new(alloc);
     body.push(barrier(0, Severity::Error))?;
     for turn in 0..count.min(1000) {

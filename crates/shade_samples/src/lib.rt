@@ -7,9 +7,10 @@ ghost use Rattle.shade_mem.specs.Inputs.{size_of};
 
 use shade_base::{Place, Severity};
 use shade_core::{Act, BuiltinInput, CoreFunction, CoreModule, CoreParam, CoreStatement, Operand};
-use shade_values::{Leaf, Name, Op, Scalar, Space, TypeId, TypeTable, Value};
+use shade_values::{Leaf, Name, Op, Scalar, ShadeType, Space, TypeId, TypeTable, Value};
 use sqlite_items::Items;
 use std::alloc::{AllocError, Global};
+use std::test::Fail;
 
 pub const NOWHERE: Place = Place {
     offset: 0,
@@ -89,7 +90,7 @@ pub fn branching(
     op: Op,
     severity: Severity,
     stands: BarrierAt,
-) -> Result<CoreModule, AllocError>
+) -> Result<CoreModule, Fail>
     ensures roots { IfOk result (λ m. m.roots ≡ []) }
     ensures entry { IfOk result (λ m. is_some (size_of m 0) ≡ true) }
     ensures functions { IfOk result (λ m. 0 < length m.functions) }
@@ -110,8 +111,16 @@ pub fn branching(
     entry_of(alloc, body)
 }
 
+/// `u32`, of the index and of what it is compared with, and `bool`.
+fn types(alloc: Global) -> Result<TypeTable, Fail> {
+    let mut table = TypeTable::new(alloc);
+    let _ = table.add(ShadeType::Plain(Scalar::U32))?;
+    let _ = table.add(ShadeType::Plain(Scalar::Bool))?;
+    Ok(table)
+}
+
 /// A module whose one function is an entry of two lanes with this body.
-pub fn entry_of(alloc: Global, body: Items<CoreStatement>) -> Result<CoreModule, AllocError>
+pub fn entry_of(alloc: Global, body: Items<CoreStatement>) -> Result<CoreModule, Fail>
     ensures roots { IfOk result (λ m. m.roots ≡ []) }
     ensures entry { IfOk result (λ m. is_some (size_of m 0) ≡ true) }
     ensures functions { IfOk result (λ m. 0 < length m.functions) }
@@ -129,7 +138,7 @@ pub fn entry_of(alloc: Global, body: Items<CoreStatement>) -> Result<CoreModule,
         body,
     })?;
     Ok(CoreModule {
-        types: TypeTable::new(alloc),
+        types: types(alloc)?,
         roots: Items::new(alloc),
         functions,
     })

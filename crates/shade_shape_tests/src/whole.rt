@@ -1,85 +1,17 @@
 //! The shape of whole modules by hand: one demand broken in each row.
 
-use shade_base::Severity;
-use shade_core::{
-    Act, Argument, Base, BuiltinInput, CoreFunction, CoreModule, CoreParam, CoreStatement,
-    Functions, Operand, Root, SwitchPart, View, ViewStep,
+use crate::modules::{
+    ABSTRACT, B, C, COUNTER, FOUR, Given, I, LIST, MISSING, Memory, POINTER, R, S, SIGNED, TRUTH,
+    U, W, WORD, X, add_if, add_load, add_loop, add_return, add_skip, add_store, is_shaped, leaf,
+    memory_module, module_of, more_function, operand, root,
 };
-use shade_samples::{NOWHERE, barrier, compare, only, statement};
-use shade_values::{Access, Leaf, Name, Op, Scalar, ShadeType, Space, TypeId, TypeTable, Value};
-use shade_whole::check_shape;
+use shade_base::Severity;
+use shade_core::{Act, Base, BuiltinInput, CoreModule, CoreParam, CoreStatement, SwitchPart};
+use shade_samples::{barrier, compare, only, statement};
+use shade_values::{Access, Op, Scalar, Space, TypeId};
 use sqlite_items::Items;
 use std::alloc::{AllocError, Global};
 use std::test::Fail;
-
-const U: TypeId = TypeId(0);
-
-const I: TypeId = TypeId(1);
-
-const B: TypeId = TypeId(2);
-
-const LIST: TypeId = TypeId(3);
-
-const COUNTER: TypeId = TypeId(4);
-
-const POINTER: TypeId = TypeId(5);
-
-const ABSTRACT: TypeId = TypeId(6);
-
-const FOUR: TypeId = TypeId(7);
-
-const MISSING: TypeId = TypeId(99);
-
-/// `u32`, `i32`, `bool`, `array<u32>`, `atomic<u32>`, `ptr<function, u32>`, AbstractInt and `array<u32, 4>`.
-fn types(alloc: Global) -> Result<TypeTable, Fail> {
-    let mut table = TypeTable::new(alloc);
-    let word = table.add(ShadeType::Plain(Scalar::U32))?;
-    let _ = table.add(ShadeType::Plain(Scalar::I32))?;
-    let _ = table.add(ShadeType::Plain(Scalar::Bool))?;
-    let _ = table.add(ShadeType::RuntimeArray(word))?;
-    let _ = table.add(ShadeType::Atomic(Scalar::U32))?;
-    let _ = table.add(ShadeType::Pointer(Space::Function, word, Access::ReadWrite))?;
-    let _ = table.add(ShadeType::Plain(Scalar::Abstract))?;
-    let _ = table.add(ShadeType::Array(word, 4))?;
-    Ok(table)
-}
-
-fn leaf(scalar: Scalar, number: i64) -> Value {
-    Value::One(Leaf { scalar, number })
-}
-
-fn word(number: i64) -> Operand {
-    Operand::Constant(U, leaf(Scalar::U32, number))
-}
-
-/// An operand of a row.
-#[derive(Clone, Copy, Debug)]
-enum Given {
-    /// A constant of a type, with the scalar and the number of its value.
-    Value(TypeId, Scalar, i64),
-    Param(u32),
-    Temp(u32),
-}
-
-fn operand(given: Given) -> Operand {
-    match given {
-        Given::Value(id, scalar, number) => Operand::Constant(id, leaf(scalar, number)),
-        Given::Param(number) => Operand::Param(number),
-        Given::Temp(number) => Operand::Temp(number),
-    }
-}
-
-fn operands(alloc: Global, given: &[Given]) -> Result<Items<Operand>, AllocError> {
-    let mut list = Items::new(alloc);
-    for one in given {
-        list.push(operand(*one))?;
-    }
-    Ok(list)
-}
-
-const WORD: Given = Given::Value(U, Scalar::U32, 1);
-
-const SIGNED: Given = Given::Value(I, Scalar::I32, 1);
 
 /// The one operation of an entry, its operands, and whether they fit.
 const OPERATIONS: &[(Op, &[Given], bool)] = &[
@@ -113,201 +45,15 @@ const OPERATIONS: &[(Op, &[Given], bool)] = &[
     (Op::AtomicLoad, &[WORD], false),
 ];
 
-fn operation_module(alloc: Global, op: Op, given: &[Given]) -> Result<CoreModule, Fail> {
-    let args = operands(alloc, given)?;
-    let mut body = only(alloc, statement(0, Act::Set { op, args }))?;
-    add_return(&mut body, 1)?;
-    module_of(alloc, body)
-}
-
 #[test]
 fn operations_take_their_types(rt: HostRuntime) -> Result<(), Fail> {
     let alloc = rt.alloc();
     for (op, given, expected) in OPERATIONS {
-        let found = is_shaped(alloc, operation_module(alloc, *op, given)?)?;
+        let found = is_shaped(alloc, memory_module(alloc, Memory::Set(*op, given))?)?;
         assert_eq!(rt; found, *expected, "{op:?} {given:?}");
     }
     Ok(())
 }
-
-fn root(
-    alloc: Global,
-    name: &str,
-    space: Space,
-    access: Access,
-    ty: TypeId,
-) -> Result<Root, AllocError> {
-    Ok(Root {
-        name: Name::from_text(alloc, name)?,
-        space,
-        access,
-        ty,
-        initial: None,
-    })
-}
-
-/// A word and a counter of the workgroup, a list that is only read, and a list that is written.
-fn roots(alloc: Global) -> Result<Items<Root>, AllocError> {
-    let mut list = Items::new(alloc);
-    list.push(root(alloc, "w", Space::Workgroup, Access::ReadWrite, U)?)?;
-    list.push(root(alloc, "c", Space::Workgroup, Access::ReadWrite, COUNTER)?)?;
-    list.push(root(alloc, "r", Space::Storage, Access::Read, LIST)?)?;
-    list.push(root(alloc, "s", Space::Storage, Access::ReadWrite, LIST)?)?;
-    Ok(list)
-}
-
-/// `fn f(a: u32, p: ptr<function, u32>) -> u32 { return a; }`
-fn helper(alloc: Global) -> Result<CoreFunction, AllocError> {
-    let mut params = Items::new(alloc);
-    params.push(CoreParam::Plain(U))?;
-    params.push(CoreParam::Pointer(Space::Function, POINTER))?;
-    let mut body = Items::new(alloc);
-    let value = Some(Operand::Param(0));
-    body.push(statement(0, Act::Return { value }))?;
-    Ok(CoreFunction {
-        name: Name::from_text(alloc, "f")?,
-        place: NOWHERE,
-        params,
-        locals: Items::new(alloc),
-        result: Some(U),
-        entry: None,
-        body,
-    })
-}
-
-/// An entry of two lanes with this body and two locals, a word and a truth.
-fn entry(alloc: Global, body: Items<CoreStatement>) -> Result<CoreFunction, AllocError> {
-    let mut params = Items::new(alloc);
-    params.push(CoreParam::Input(BuiltinInput::LocalIndex))?;
-    let mut locals = Items::new(alloc);
-    locals.push(U)?;
-    locals.push(B)?;
-    Ok(CoreFunction {
-        name: Name::from_text(alloc, "main")?,
-        place: NOWHERE,
-        params,
-        locals,
-        result: None,
-        entry: Some([2, 1, 1]),
-        body,
-    })
-}
-
-/// What the test says of a module.
-fn is_shaped(alloc: Global, module: CoreModule) -> Result<bool, AllocError> {
-    check_shape(alloc, &module)
-}
-
-/// The entry with this body, and the helper.
-fn functions_of(alloc: Global, body: Items<CoreStatement>) -> Result<Functions, AllocError> {
-    let mut functions = Items::new(alloc);
-    functions.push(entry(alloc, body)?)?;
-    functions.push(helper(alloc)?)?;
-    Ok(functions)
-}
-
-/// The module of these types and roots whose entry has this body.
-fn module_of(alloc: Global, body: Items<CoreStatement>) -> Result<CoreModule, Fail> {
-    let functions = functions_of(alloc, body)?;
-    let roots = roots(alloc)?;
-    Ok(CoreModule {
-        types: types(alloc)?,
-        roots,
-        functions,
-    })
-}
-
-/// The first statement of an entry, whose value or effect is on memory.
-#[derive(Clone, Copy, Debug)]
-enum Memory {
-    Load(Base, Option<Given>),
-    Store(Base, Option<Given>, Given),
-    Declare(u32, Option<Given>),
-    Atomic(Op, Base, &'static [Given]),
-    UniformLoad(Base),
-    Length(Base),
-    Barrier(Space),
-    Call(u32, &'static [Given], Option<Base>),
-    Return(Option<Given>),
-}
-
-fn view(alloc: Global, base: Base, index: Option<Given>) -> Result<View, AllocError> {
-    let mut steps = Items::new(alloc);
-    if let Some(given) = index {
-        steps.push(ViewStep::Index(operand(given)))?;
-    }
-    Ok(View { base, steps })
-}
-
-fn maybe(given: Option<Given>) -> Option<Operand> {
-    match given {
-        Some(given) => Some(operand(given)),
-        None => None,
-    }
-}
-
-fn call(
-    alloc: Global,
-    function: u32,
-    given: &[Given],
-    pointer: Option<Base>,
-) -> Result<Act, AllocError> {
-    let mut args = Items::new(alloc);
-    for one in given {
-        args.push(Argument::Plain(operand(*one)))?;
-    }
-    if let Some(base) = pointer {
-        args.push(Argument::Pointer(view(alloc, base, None)?))?;
-    }
-    Ok(Act::Call { function, args })
-}
-
-fn memory_act(alloc: Global, memory: Memory) -> Result<Act, AllocError> {
-    let act = match memory {
-        Memory::Load(base, index) => Act::Load {
-            view: view(alloc, base, index)?,
-        },
-        Memory::Store(base, index, value) => Act::Store {
-            view: view(alloc, base, index)?,
-            value: operand(value),
-        },
-        Memory::Declare(local, value) => Act::Declare {
-            local,
-            value: maybe(value),
-        },
-        Memory::Atomic(op, base, given) => Act::Atomic {
-            op,
-            view: view(alloc, base, None)?,
-            args: operands(alloc, given)?,
-        },
-        Memory::UniformLoad(base) => Act::UniformLoad {
-            view: view(alloc, base, None)?,
-            severity: Severity::Warning,
-        },
-        Memory::Length(base) => Act::Length {
-            view: view(alloc, base, None)?,
-        },
-        Memory::Barrier(space) => Act::Barrier {
-            space,
-            severity: Severity::Warning,
-        },
-        Memory::Call(function, given, pointer) => return call(alloc, function, given, pointer),
-        Memory::Return(value) => Act::Return {
-            value: maybe(value),
-        },
-    };
-    Ok(act)
-}
-
-const W: Base = Base::Module(0);
-
-const C: Base = Base::Module(1);
-
-const R: Base = Base::Module(2);
-
-const S: Base = Base::Module(3);
-
-const X: Base = Base::Local(0);
 
 const MEMORY: &[(Memory, bool)] = &[
     (Memory::Load(W, None), true),
@@ -339,27 +85,21 @@ const MEMORY: &[(Memory, bool)] = &[
         Memory::Atomic(Op::AtomicCompareExchangeWeak, C, &[WORD, WORD]),
         false,
     ),
-    (Memory::UniformLoad(W), true),
-    (Memory::UniformLoad(X), false),
+    (Memory::UniformLoad(W, None), true),
+    (Memory::UniformLoad(X, None), false),
     (Memory::Length(S), true),
     (Memory::Length(W), false),
     (Memory::Barrier(Space::Storage), true),
     (Memory::Barrier(Space::Private), false),
-    (Memory::Call(1, &[WORD], Some(X)), true),
-    (Memory::Call(1, &[WORD], Some(W)), false),
+    (Memory::Call(1, &[WORD], Some((X, None))), true),
+    (Memory::Call(1, &[WORD], Some((W, None))), false),
     (Memory::Call(1, &[WORD], None), false),
-    (Memory::Call(1, &[SIGNED], Some(X)), false),
+    (Memory::Call(1, &[SIGNED], Some((X, None))), false),
     (Memory::Call(0, &[], None), false),
     (Memory::Call(2, &[], None), false),
     (Memory::Return(None), true),
     (Memory::Return(Some(WORD)), false),
 ];
-
-fn memory_module(alloc: Global, memory: Memory) -> Result<CoreModule, Fail> {
-    let mut body = only(alloc, statement(0, memory_act(alloc, memory)?))?;
-    add_return(&mut body, 1)?;
-    module_of(alloc, body)
-}
 
 #[test]
 fn statements_on_memory(rt: HostRuntime) -> Result<(), Fail> {
@@ -390,55 +130,6 @@ enum Control {
     Kept,
     /// No Return at the end.
     Open,
-}
-
-/// Adds an If with these parts.
-fn add_if(
-    list: &mut Items<CoreStatement>,
-    number: u32,
-    cond: Given,
-    yes: Items<CoreStatement>,
-    no: Items<CoreStatement>,
-) -> Result<(), AllocError> {
-    let cond = operand(cond);
-    list.push(statement(number, Act::If { cond, yes, no }))
-}
-
-fn add_loop(
-    list: &mut Items<CoreStatement>,
-    body: Items<CoreStatement>,
-    continuing: Items<CoreStatement>,
-    leave: Given,
-) -> Result<(), AllocError> {
-    let leave = Some(operand(leave));
-    let act = Act::Loop {
-        body,
-        continuing,
-        leave,
-    };
-    list.push(statement(0, act))
-}
-
-fn add_return(list: &mut Items<CoreStatement>, number: u32) -> Result<(), AllocError> {
-    list.push(statement(number, Act::Return { value: None }))
-}
-
-/// Adds `x`.
-fn add_load(alloc: Global, list: &mut Items<CoreStatement>, number: u32) -> Result<(), AllocError> {
-    let view = view(alloc, X, None)?;
-    list.push(statement(number, Act::Load { view }))
-}
-
-/// Adds `x = t`, of the value of a statement.
-fn add_store(
-    alloc: Global,
-    list: &mut Items<CoreStatement>,
-    number: u32,
-    value: u32,
-) -> Result<(), AllocError> {
-    let view = view(alloc, X, None)?;
-    let value = Operand::Temp(value);
-    list.push(statement(number, Act::Store { view, value }))
 }
 
 /// `if (cond) { workgroupBarrier(); }`, with the number of the If.
@@ -517,15 +208,9 @@ fn leave_body(alloc: Global, leave: Given) -> Result<Items<CoreStatement>, Alloc
     let mut continuing = Items::new(alloc);
     compare(alloc, &mut continuing, 1, Op::Less, 1)?;
     let mut body = Items::new(alloc);
-    add_loop(&mut body, Items::new(alloc), continuing, leave)?;
+    add_loop(&mut body, 0, Items::new(alloc), continuing, leave)?;
     add_return(&mut body, 2)?;
     Ok(body)
-}
-
-/// Adds `if (true) { continue; }`
-fn add_skip(alloc: Global, list: &mut Items<CoreStatement>, number: u32) -> Result<(), AllocError> {
-    let yes = only(alloc, statement(number.saturating_add(1), Act::Continue))?;
-    add_if(list, number, TRUTH, yes, Items::new(alloc))
 }
 
 /// `loop { if (true) { continue; } x; continuing { x = t; break if true; } }`
@@ -553,7 +238,7 @@ fn continued_body(
     let mut continuing = Items::new(alloc);
     add_store(alloc, &mut continuing, 4, value)?;
     let mut body = Items::new(alloc);
-    add_loop(&mut body, inner, continuing, TRUTH)?;
+    add_loop(&mut body, 0, inner, continuing, TRUTH)?;
     add_return(&mut body, 5)?;
     Ok(body)
 }
@@ -570,8 +255,6 @@ fn control_body(alloc: Global, control: Control) -> Result<Items<CoreStatement>,
         Control::Open => Ok(Items::new(alloc)),
     }
 }
-
-const TRUTH: Given = Given::Value(B, Scalar::Bool, 1);
 
 const CONTROL: &[(Control, bool)] = &[
     (Control::If(0, TRUTH), true),
@@ -615,29 +298,6 @@ enum Declared {
     Function(&'static str, CoreParam, Option<[u32; 3]>, bool),
 }
 
-fn more_function(
-    alloc: Global,
-    name: &str,
-    param: CoreParam,
-    size: Option<[u32; 3]>,
-    gives: bool,
-) -> Result<CoreFunction, AllocError> {
-    let mut params = Items::new(alloc);
-    params.push(param)?;
-    let mut body = Items::new(alloc);
-    let value = if gives { Some(word(1)) } else { None };
-    body.push(statement(0, Act::Return { value }))?;
-    Ok(CoreFunction {
-        name: Name::from_text(alloc, name)?,
-        place: NOWHERE,
-        params,
-        locals: Items::new(alloc),
-        result: if gives { Some(U) } else { None },
-        entry: size,
-        body,
-    })
-}
-
 fn declare(alloc: Global, module: &mut CoreModule, declared: Declared) -> Result<(), AllocError> {
     match declared {
         Declared::Root(name, space, access, ty, begins) => {
@@ -648,7 +308,12 @@ fn declare(alloc: Global, module: &mut CoreModule, declared: Declared) -> Result
             module.roots.push(more)
         }
         Declared::Function(name, param, size, gives) => {
-            let more = more_function(alloc, name, param, size, gives)?;
+            let (ty, value) = if gives {
+                (Some(U), Some(WORD))
+            } else {
+                (None, None)
+            };
+            let more = more_function(alloc, name, param, size, ty, value)?;
             module.functions.push(more)
         }
     }
