@@ -1,0 +1,4 @@
+pub mod CallLaws
+pub mod TagLaws
+pub mod OneTables
+pub mod UsedLaws

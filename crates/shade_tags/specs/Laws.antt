@@ -1,0 +1,37 @@
+-- Laws of tags.
+use Rattle.std.specs.Prelude.{◌≡◌, ℕ, ◌↔◌, List, Some, slice_get}
+use Rattle.shade_core.specs.declared.module.CoreFunction.{CoreFunction}
+use Rattle.shade_core.specs.declared.module.CoreModule.{CoreModule}
+use Rattle.shade_core.specs.Chains.{Calls}
+use Rattle.shade_graph.specs.declared.node.Tag.{Tag}
+use Rattle.shade_graph.specs.Graph.{Among}
+use Rattle.shade_uniformity.specs.Edges.{Edge}
+use Rattle.shade_tags.specs.Tags.{IsPair, IsTag, IsTable, Leads, Lists}
+use Rattle.shade_tags.specs.Used.{IsUsed}
+
+-- a source and a target that a path of a function joins, where the functions that it calls have some tags
+abbrev pub JoinsPair : CoreModule → CoreFunction → List (List Tag) → Tag → Type 0
+JoinsPair shader function tags tag = IsPair tag × Leads (Edge shader function tags) tag.source tag.target
+
+-- a tag is listed for a function
+abbrev pub IsListed : List (List Tag) → ℕ → Tag → Type 0
+IsListed tags g tag = (of : List Tag) × (slice_get tags g ≡ Some of) × Among tag of
+
+-- Where a table lists tags alone, and all tags of the functions that a function calls, the tags of this function are the pairs that its paths
+-- join over that table: what stands in the table for other functions does not matter.
+abbrev pub ByCallees : Type 0
+ByCallees = (shader : CoreModule) (tags : List (List Tag)) (k : ℕ) (function : CoreFunction) → slice_get shader.functions k ≡ Some function → Lists (IsTag shader) tags
+    → ((g : ℕ) (tag : Tag) → Calls shader k g → IsTag shader g tag → IsListed tags g tag) → (tag : Tag) → JoinsPair shader function tags tag ↔ IsTag shader k tag
+
+-- The tags of a function are exactly the pairs that its paths join over the edges that the tags of its callees give.
+abbrev pub ByPaths : Type 0
+ByPaths = (shader : CoreModule) (tags : List (List Tag)) → IsTable shader tags → (k : ℕ) (function : CoreFunction) (of : List Tag) → slice_get shader.functions k ≡ Some function → slice_get tags k ≡ Some of
+    → (tag : Tag) → Among tag of ↔ JoinsPair shader function tags tag
+
+-- A module has one table.
+abbrev pub OneTable : Type 0
+OneTable = (shader : CoreModule) (tags other : List (List Tag)) → IsTable shader tags → IsTable shader other → tags ≡ other
+
+-- Used tags are tags of the functions that they are told of.
+abbrev pub UsedAreTags : Type 0
+UsedAreTags = (shader : CoreModule) (tags : List (List Tag)) → IsTable shader tags → (g : ℕ) (tag : Tag) → IsUsed shader tags g tag → IsTag shader g tag

@@ -1,0 +1,25 @@
+//! Laws of tags.
+
+ghost use Rattle.shade_tags.specs.Laws.{ByCallees, ByPaths, OneTable, UsedAreTags};
+
+/// Where a table lists tags alone, and all tags of the functions that a function calls, the tags of this function are the pairs of a
+/// source and a target that its paths join over that table.
+pub fn tags_are_joined_over_the_tags_of_callees()
+    ensures { ByCallees }
+{}
+
+/// The tags of a function are exactly the pairs of a source and a target that its paths join, over the edges that the tags of the
+/// functions that it calls give.
+pub fn tags_are_joined_by_paths()
+    ensures { ByPaths }
+{}
+
+/// A module has one table of tags.
+pub fn tables_are_one()
+    ensures { OneTable }
+{}
+
+/// What is told as a used tag is a tag of its function.
+pub fn used_tags_are_tags()
+    ensures { UsedAreTags }
+{}
