@@ -1,6 +1,6 @@
 -- The tags of a function are those that its paths join over the tags of the functions that it calls.
-use Rattle.std.proofs.Common.{◌≡◌, refl, sym, ap, subst, ◌∙◌, ℕ, zero, suc, List, [], ◌∷◌, length, Option, Some, arith}
-use Rattle.std.specs.Prelude.{slice_get}
+use Rattle.std.proofs.Common.{◌≡◌, refl, sym, ap, subst, ◌∙◌, ℕ, zero, suc, ◌<◌, List, [], ◌∷◌, length, Option, Some, arith}
+use Rattle.std.specs.Prelude.{◌↔◌, slice_get}
 use Rattle.shade_core.specs.declared.module.CoreFunction.{CoreFunction}
 use Rattle.shade_core.specs.declared.module.CoreModule.{CoreModule}
 use Rattle.shade_core.specs.Code.{Code, call}
@@ -13,8 +13,8 @@ use Rattle.shade_reach.specs.Paths.{Walk}
 use Rattle.shade_uniformity.specs.Rows.{TagRow, SourceAt, TargetAt}
 use Rattle.shade_uniformity.specs.Rows as rows
 use Rattle.shade_uniformity.specs.Edges.{GivesByTag, Edge, own, by_tag}
-use Rattle.shade_tags.specs.Tags.{IsPair, IsTag, joins, IsTable, Leads, Lists}
-use Rattle.shade_tags.specs.Laws.{JoinsPair, IsListed, ByCallees, ByPaths}
+use Rattle.shade_tags.specs.Tags.{IsPair, IsTag, joins, IsTable, Leads}
+use Rattle.shade_tags.specs.Laws.{JoinsPair, IsListed, ByCallees, ByPaths, CallsDescend, IsClosed, ClosedIsTable}
 use Rattle.shade_tags.proofs.CallLaws.{contains_first, analysed_called}
 
 -- what a tag row says of the call that it stands at
@@ -56,29 +56,57 @@ leads_grows E F more from to (first ∷ rest, p) = (first ∷ rest, (p.0, walk_g
 some_one : (found : Option CoreFunction) (f g : CoreFunction) → found ≡ Some f → found ≡ Some g → f ≡ g
 some_one found f g a b = let e : Some f ≡ Some g = sym a ∙ b in cc
 
-tag_joined : (shader : CoreModule) (tags : List (List Tag)) (k : ℕ) (function : CoreFunction) → slice_get shader.functions k ≡ Some function
-    → ((g : ℕ) (tag : Tag) → Calls shader k g → IsTag shader g tag → IsListed tags g tag) → (tag : Tag) → IsTag shader k tag → JoinsPair shader function tags tag
-tag_joined shader tags k function at complete tag (joins {function = f} {tags = mine} here pair all leads) =
-    let same : f ≡ function = some_one (slice_get shader.functions k) f function here at in
+-- a function and a table for the functions that it calls
+abbrev Exact : CoreModule → List (List Tag) → ℕ → Type 0
+Exact shader tags k = (g : ℕ) (tag : Tag) → Calls shader k g → IsListed tags g tag ↔ IsTag shader g tag
+
+tag_joined : (shader : CoreModule) (tags : List (List Tag)) (k : ℕ) (function : CoreFunction) → slice_get shader.functions k ≡ Some function → Exact shader tags k → (tag : Tag) → IsTag shader k tag
+    → JoinsPair shader function tags tag
+tag_joined shader tags k function at exact tag (joins {function = f} {tags = mine} stands pair all leads) =
+    let same : f ≡ function = some_one (slice_get shader.functions k) f function stands at in
     let over : Leads (Edge shader function mine) tag.source tag.target = subst (λ (h : CoreFunction). Leads (Edge shader h mine) tag.source tag.target) same leads in
-    (pair, leads_grows (Edge shader function mine) (Edge shader function tags) (edge_grows shader k function mine tags at (λ g t c l. complete g t c (all g l.0 t l.1 l.2))) tag.source tag.target over)
+    (pair, leads_grows (Edge shader function mine) (Edge shader function tags) (edge_grows shader k function mine tags at (λ g t c l. (exact g t c).1 (all g l.0 t c l.1 l.2))) tag.source tag.target over)
 
 pub by_callees : ByCallees
-by_callees shader tags k function at sound complete tag = (λ j. joins at j.0 sound j.1, λ t. tag_joined shader tags k function at complete tag t)
+by_callees shader tags k function at exact tag = (λ j. joins at j.0 (λ g of t c e h. (exact g t c).0 (of, e, h)) j.1, λ t. tag_joined shader tags k function at exact tag t)
 
--- a list for each function has one for the function with a number
-listed_at : (xs : List (List Tag)) (fs : List CoreFunction) (k : ℕ) (f : CoreFunction) → length xs ≡ length fs → slice_get fs k ≡ Some f → (of : List Tag) × (slice_get xs k ≡ Some of)
-listed_at xs [] k f l e = cc
-listed_at [] (g ∷ fs) k f l e = absurd (omega (arith, l))
-listed_at (x ∷ xs) (g ∷ fs) zero f l e = (x, refl)
-listed_at (x ∷ xs) (g ∷ fs) (suc k) f l e = listed_at xs fs k f (omega (arith, l)) e
+-- lists as long as each other have an item at the same places
+other_at : {A B : Type 0} (xs : List A) (ys : List B) (k : ℕ) (y : B) → length xs ≡ length ys → slice_get ys k ≡ Some y → (x : A) × (slice_get xs k ≡ Some x)
+other_at xs [] k y l e = cc
+other_at [] (z ∷ ys) k y l e = absurd (omega (arith, l))
+other_at (x ∷ xs) (z ∷ ys) zero y l e = (x, refl)
+other_at (x ∷ xs) (z ∷ ys) (suc k) y l e = other_at xs ys k y (omega (arith, l)) e
 
-tag_listed : (shader : CoreModule) (tags : List (List Tag)) → IsTable shader tags → (g : ℕ) (tag : Tag) → IsTag shader g tag → IsListed tags g tag
-tag_listed shader tags table g tag (joins {function = f} {tags = mine} here pair all leads) =
-    let found = listed_at tags shader.functions g f table.long here in
-    (found.0, found.1, (table.members g found.0 found.1 tag).1 (joins here pair all leads))
+tag_stands : (shader : CoreModule) (k : ℕ) (tag : Tag) → IsTag shader k tag → (function : CoreFunction) × (slice_get shader.functions k ≡ Some function)
+tag_stands shader k tag (joins {function = f} stands pair all leads) = (f, stands)
+
+table_exact : (shader : CoreModule) (tags : List (List Tag)) → IsTable shader tags → (g : ℕ) (tag : Tag) → IsListed tags g tag ↔ IsTag shader g tag
+table_exact shader tags table g tag = (λ l. (table.members g l.0 l.1 tag).0 l.2, λ t. (let f = tag_stands shader g tag t in let of = other_at tags shader.functions g f.0 table.long f.1 in (of.0, of.1, (table.members g of.0 of.1 tag).1 t)))
 
 pub by_paths : ByPaths
 by_paths shader tags table k function of at listed tag =
-    let both = by_callees shader tags k function at (λ g l t e h. (table.members g l e t).0 h) (λ g t c h. tag_listed shader tags table g t h) tag in
+    let both = by_callees shader tags k function at (λ g t c. table_exact shader tags table g t) tag in
     (λ h. both.1 ((table.members k of listed tag).0 h), λ j. (table.members k of listed tag).1 (both.0 j))
+
+some_list : (found : Option (List Tag)) (of other : List Tag) → found ≡ Some of → found ≡ Some other → of ≡ other
+some_list found of other a b = let e : Some of ≡ Some other = sym a ∙ b in cc
+
+-- a table that is closed is exact at functions of little depth
+closed_exact : (shader : CoreModule) (tags : List (List Tag)) (down : CallsDescend shader) → length tags ≡ length shader.functions → IsClosed shader tags → (n k : ℕ) → down.depth k < n → (tag : Tag)
+    → IsListed tags k tag ↔ IsTag shader k tag
+closed_exact shader tags down long closed zero k l tag = absurd (omega (arith, l))
+closed_exact shader tags down long closed (suc n) k l tag = (
+  λ listed. (let f = other_at shader.functions tags k listed.0 (sym long) listed.1 in
+      (by_callees shader tags k f.0 f.1 (λ g t c. closed_exact shader tags down long closed n g (omega (arith, l, down.falls k g c)) t) tag).0 ((closed k f.0 listed.0 f.1 listed.1 tag).0 listed.2)),
+  λ t. (let f = tag_stands shader k tag t in
+      let of = other_at tags shader.functions k f.0 long f.1 in
+      (of.0, of.1, (closed k f.0 of.0 f.1 of.1 tag).1 ((by_callees shader tags k f.0 f.1 (λ g t c. closed_exact shader tags down long closed n g (omega (arith, l, down.falls k g c)) t) tag).1 t))),
+)
+
+pub closed_is_table : ClosedIsTable
+closed_is_table shader tags down long closed ordered = record {
+  long = long;
+  members = λ k of at tag. (let both = closed_exact shader tags down long closed (suc (down.depth k)) k (omega arith) tag in
+      (λ h. both.0 (of, at, h), λ t. (let l = both.1 t in subst (λ (xs : List Tag). Among tag xs) (some_list (slice_get tags k) l.0 of l.1 at) l.2)));
+  ordered = ordered;
+}

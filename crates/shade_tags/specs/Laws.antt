@@ -1,12 +1,12 @@
 -- Laws of tags.
-use Rattle.std.specs.Prelude.{◌≡◌, ℕ, ◌↔◌, List, Some, slice_get}
+use Rattle.std.specs.Prelude.{◌≡◌, ℕ, ◌<◌, ◌↔◌, List, length, Some, slice_get}
 use Rattle.shade_core.specs.declared.module.CoreFunction.{CoreFunction}
 use Rattle.shade_core.specs.declared.module.CoreModule.{CoreModule}
 use Rattle.shade_core.specs.Chains.{Calls}
 use Rattle.shade_graph.specs.declared.node.Tag.{Tag}
 use Rattle.shade_graph.specs.Graph.{Among}
-use Rattle.shade_uniformity.specs.Edges.{Edge}
-use Rattle.shade_tags.specs.Tags.{IsPair, IsTag, IsTable, Leads, Lists}
+use Rattle.shade_uniformity.specs.Edges.{Edge, TagLess}
+use Rattle.shade_tags.specs.Tags.{IsPair, IsTag, IsTable, InOrder, Leads}
 use Rattle.shade_tags.specs.Used.{IsUsed}
 
 -- a source and a target that a path of a function joins, where the functions that it calls have some tags
@@ -17,16 +17,30 @@ JoinsPair shader function tags tag = IsPair tag × Leads (Edge shader function t
 abbrev pub IsListed : List (List Tag) → ℕ → Tag → Type 0
 IsListed tags g tag = (of : List Tag) × (slice_get tags g ≡ Some of) × Among tag of
 
--- Where a table lists tags alone, and all tags of the functions that a function calls, the tags of this function are the pairs that its paths
--- join over that table: what stands in the table for other functions does not matter.
+-- Where a table lists exactly the tags of the functions that a function calls, the tags of this function are the pairs that its paths join over
+-- that table: what stands in the table for other functions does not matter.
 abbrev pub ByCallees : Type 0
-ByCallees = (shader : CoreModule) (tags : List (List Tag)) (k : ℕ) (function : CoreFunction) → slice_get shader.functions k ≡ Some function → Lists (IsTag shader) tags
-    → ((g : ℕ) (tag : Tag) → Calls shader k g → IsTag shader g tag → IsListed tags g tag) → (tag : Tag) → JoinsPair shader function tags tag ↔ IsTag shader k tag
+ByCallees = (shader : CoreModule) (tags : List (List Tag)) (k : ℕ) (function : CoreFunction) → slice_get shader.functions k ≡ Some function
+    → ((g : ℕ) (tag : Tag) → Calls shader k g → IsListed tags g tag ↔ IsTag shader g tag) → (tag : Tag) → JoinsPair shader function tags tag ↔ IsTag shader k tag
+
+-- a table lists for each function exactly the pairs that its paths join over this table
+abbrev pub IsClosed : CoreModule → List (List Tag) → Type 0
+IsClosed shader tags = (k : ℕ) (function : CoreFunction) (of : List Tag) → slice_get shader.functions k ≡ Some function → slice_get tags k ≡ Some of
+    → (tag : Tag) → Among tag of ↔ JoinsPair shader function tags tag
 
 -- The tags of a function are exactly the pairs that its paths join over the edges that the tags of its callees give.
 abbrev pub ByPaths : Type 0
-ByPaths = (shader : CoreModule) (tags : List (List Tag)) → IsTable shader tags → (k : ℕ) (function : CoreFunction) (of : List Tag) → slice_get shader.functions k ≡ Some function → slice_get tags k ≡ Some of
-    → (tag : Tag) → Among tag of ↔ JoinsPair shader function tags tag
+ByPaths = (shader : CoreModule) (tags : List (List Tag)) → IsTable shader tags → IsClosed shader tags
+
+-- calls lead down, as they do where they make no cycle
+pub record CallsDescend (shader : CoreModule) : Type 0 where
+  pub depth : ℕ → ℕ
+  pub falls : (k g : ℕ) → Calls shader k g → depth g < depth k
+
+-- Where calls make no cycle, such a table is the table of the module: there is no other way to say what tags are.
+abbrev pub ClosedIsTable : Type 0
+ClosedIsTable = (shader : CoreModule) (tags : List (List Tag)) → CallsDescend shader → length tags ≡ length shader.functions → IsClosed shader tags
+    → ((k : ℕ) (of : List Tag) → slice_get tags k ≡ Some of → InOrder TagLess of) → IsTable shader tags
 
 -- A module has one table.
 abbrev pub OneTable : Type 0

@@ -4,6 +4,7 @@ use Rattle.std.specs.Prelude.{◌≡◌, ℕ, ◌↔◌, List, [], ◌∷◌, le
 use Rattle.shade_base.specs.declared.severity.Severity.{Severity}
 use Rattle.shade_core.specs.declared.module.CoreFunction.{CoreFunction}
 use Rattle.shade_core.specs.declared.module.CoreModule.{CoreModule}
+use Rattle.shade_core.specs.Chains.{Calls}
 use Rattle.shade_graph.specs.declared.node.Node.{Node}
 use Rattle.shade_graph.specs.declared.node.Node.TheVariants.{Required, NonUniform, Start, Param, ContentsIn, ContentsOut, Returned}
 use Rattle.shade_graph.specs.declared.node.Tag.{Tag}
@@ -34,15 +35,11 @@ pub record IsPair (tag : Tag) : Type 0 where
 abbrev pub Leads : (Node → Node → Type 0) → Node → Node → Type 0
 Leads Joined u v = (path : List Node) × IsPath Joined u v path
 
--- each tag that a table lists has a property, by the function that it is listed for
-abbrev pub Lists : (ℕ → Tag → Type 0) → List (List Tag) → Type 0
-Lists Holds tags = (g : ℕ) (of : List Tag) (tag : Tag) → slice_get tags g ≡ Some of → Among tag of → Holds g tag
-
--- The tags of the function with a number: each source and target that a path of it joins, over edges that tags give at its calls. The least
--- such pairs: what is no tag gives no edge.
+-- The tags of the function with a number: each source and target that a path of it joins, over edges that tags of the functions give that it
+-- calls. The least such pairs: what is no tag gives no edge.
 pub data IsTag (shader : CoreModule) : ℕ → Tag → Type 0 where
   joins : {k : ℕ} {function : CoreFunction} {tag : Tag} {tags : List (List Tag)} → slice_get shader.functions k ≡ Some function → IsPair tag
-      → ((g : ℕ) (of : List Tag) (other : Tag) → slice_get tags g ≡ Some of → Among other of → IsTag shader g other)
+      → ((g : ℕ) (of : List Tag) (other : Tag) → Calls shader k g → slice_get tags g ≡ Some of → Among other of → IsTag shader g other)
       → Leads (Edge shader function tags) tag.source tag.target → IsTag shader k tag
 
 -- each item comes before all later ones

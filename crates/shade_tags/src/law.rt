@@ -1,9 +1,9 @@
 //! Laws of tags.
 
-ghost use Rattle.shade_tags.specs.Laws.{ByCallees, ByPaths, OneTable, UsedAreTags};
+ghost use Rattle.shade_tags.specs.Laws.{ByCallees, ByPaths, ClosedIsTable, OneTable, UsedAreTags};
 
-/// Where a table lists tags alone, and all tags of the functions that a function calls, the tags of this function are the pairs of a
-/// source and a target that its paths join over that table.
+/// Where a table lists exactly the tags of the functions that a function calls, the tags of this function are the pairs of a source
+/// and a target that its paths join over that table.
 pub fn tags_are_joined_over_the_tags_of_callees()
     ensures { ByCallees }
 {}
@@ -12,6 +12,12 @@ pub fn tags_are_joined_over_the_tags_of_callees()
 /// functions that it calls give.
 pub fn tags_are_joined_by_paths()
     ensures { ByPaths }
+{}
+
+/// Where calls make no cycle, a table that lists for each function exactly the pairs that its paths join over this table, in their
+/// order, is the table of the module.
+pub fn closed_tables_are_the_table()
+    ensures { ClosedIsTable }
 {}
 
 /// A module has one table of tags.
