@@ -2,3 +2,4 @@ pub mod CallLaws
 pub mod TagLaws
 pub mod OneTables
 pub mod UsedLaws
+pub mod OrderLaws

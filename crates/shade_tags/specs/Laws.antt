@@ -8,6 +8,7 @@ use Rattle.shade_graph.specs.Graph.{Among}
 use Rattle.shade_uniformity.specs.Edges.{Edge, TagLess}
 use Rattle.shade_tags.specs.Tags.{IsPair, IsTag, IsTable, InOrder, Leads}
 use Rattle.shade_tags.specs.Used.{IsUsed}
+use Rattle.shade_tags.specs.Order.{IsReady, IsOrder}
 
 -- a source and a target that a path of a function joins, where the functions that it calls have some tags
 abbrev pub JoinsPair : CoreModule → CoreFunction → List (List Tag) → Tag → Type 0
@@ -45,6 +46,19 @@ ClosedIsTable = (shader : CoreModule) (tags : List (List Tag)) → CallsDescend 
 -- A module has one table.
 abbrev pub OneTable : Type 0
 OneTable = (shader : CoreModule) (tags other : List (List Tag)) → IsTable shader tags → IsTable shader other → tags ≡ other
+
+-- a function stands, and all that it calls are analysed
+abbrev pub IsBehindCallees : CoreModule → List ℕ → ℕ → Type 0
+IsBehindCallees shader done k = (k < length shader.functions) × ((g : ℕ) → Calls shader k g → Among g done)
+
+-- Functions are analysed after those that they call.
+abbrev pub CalleesFirst : Type 0
+CalleesFirst = (shader : CoreModule) (done : List ℕ) → IsOrder shader done → (k : ℕ) → Among k done → IsBehindCallees shader done k
+
+-- Where calls make no cycle, as long as some function is left one is ready: where none is, all are analysed.
+abbrev pub AllAreAnalysed : Type 0
+AllAreAnalysed = (shader : CoreModule) (done : List ℕ) → CallsDescend shader → ((k g : ℕ) → Calls shader k g → g < length shader.functions) → ((k : ℕ) → IsReady shader done k → ⊥)
+    → (k : ℕ) → k < length shader.functions → Among k done
 
 -- Used tags are tags of the functions that they are told of.
 abbrev pub UsedAreTags : Type 0

@@ -1,6 +1,6 @@
 //! Laws of tags.
 
-ghost use Rattle.shade_tags.specs.Laws.{ByCallees, ByPaths, ClosedIsTable, OneTable, UsedAreTags};
+ghost use Rattle.shade_tags.specs.Laws.{AllAreAnalysed, ByCallees, ByPaths, CalleesFirst, ClosedIsTable, OneTable, UsedAreTags};
 
 /// Where a table lists exactly the tags of the functions that a function calls, the tags of this function are the pairs of a source
 /// and a target that its paths join over that table.
@@ -28,4 +28,14 @@ pub fn tables_are_one()
 /// What is told as a used tag is a tag of its function.
 pub fn used_tags_are_tags()
     ensures { UsedAreTags }
+{}
+
+/// Functions are analysed after those that they call.
+pub fn callees_are_analysed_first()
+    ensures { CalleesFirst }
+{}
+
+/// Where calls make no cycle and are of functions that are there, all functions are analysed where none is ready any more.
+pub fn all_functions_are_analysed()
+    ensures { AllAreAnalysed }
 {}
