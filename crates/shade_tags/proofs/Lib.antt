@@ -3,3 +3,4 @@ pub mod TagLaws
 pub mod OneTables
 pub mod UsedLaws
 pub mod OrderLaws
+pub mod OneReports

@@ -2,12 +2,18 @@
 use Rattle.std.specs.Prelude.{◌≡◌, ℕ, ◌<◌, ◌↔◌, List, length, Some, slice_get}
 use Rattle.shade_core.specs.declared.module.CoreFunction.{CoreFunction}
 use Rattle.shade_core.specs.declared.module.CoreModule.{CoreModule}
+use Rattle.shade_core.specs.declared.statement.Argument.{Argument}
+use Rattle.shade_core.specs.Code.{Code, call, code_of}
 use Rattle.shade_core.specs.Chains.{Calls}
+use Rattle.shade_graph.specs.declared.node.Node.{Node}
+use Rattle.shade_graph.specs.declared.node.Node.TheVariants.{Start}
 use Rattle.shade_graph.specs.declared.node.Tag.{Tag}
 use Rattle.shade_graph.specs.Graph.{Among}
+use Rattle.shade_uniformity.specs.Structure.{Analysed}
 use Rattle.shade_uniformity.specs.Edges.{Edge, TagLess}
 use Rattle.shade_tags.specs.Tags.{IsPair, IsTag, IsTable, InOrder, Leads}
-use Rattle.shade_tags.specs.Used.{IsUsed}
+use Rattle.shade_tags.specs.declared.used.UsedTag.{UsedTag}
+use Rattle.shade_tags.specs.Used.{IsUsed, AreUsed}
 use Rattle.shade_tags.specs.Order.{IsReady, IsOrder}
 
 -- a source and a target that a path of a function joins, where the functions that it calls have some tags
@@ -63,3 +69,12 @@ AllAreAnalysed = (shader : CoreModule) (done : List ℕ) → CallsDescend shader
 -- Used tags are tags of the functions that they are told of.
 abbrev pub UsedAreTags : Type 0
 UsedAreTags = (shader : CoreModule) (tags : List (List Tag)) → IsTable shader tags → (g : ℕ) (tag : Tag) → IsUsed shader tags g tag → IsTag shader g tag
+
+-- no two analysed calls of a function have one number, as where statements are numbered in their order
+abbrev pub CallsDiffer : CoreModule → Type 0
+CallsDiffer shader = (k : ℕ) (function : CoreFunction) → slice_get shader.functions k ≡ Some function → (n g h : ℕ) (a b : Node) (args others : List Argument) (rest tail : Code)
+    → Analysed Start (code_of function.body) a (call n g args rest) → Analysed Start (code_of function.body) b (call n h others tail) → g ≡ h
+
+-- The used tags of a module are one list, with their paths and the reasons on them.
+abbrev pub OneUsed : Type 0
+OneUsed = (shader : CoreModule) → CallsDiffer shader → (tags : List (List Tag)) (one other : List UsedTag) → AreUsed shader tags one → AreUsed shader tags other → one ≡ other

@@ -1,6 +1,6 @@
 //! Laws of tags.
 
-ghost use Rattle.shade_tags.specs.Laws.{AllAreAnalysed, ByCallees, ByPaths, CalleesFirst, ClosedIsTable, OneTable, UsedAreTags};
+ghost use Rattle.shade_tags.specs.Laws.{AllAreAnalysed, ByCallees, ByPaths, CalleesFirst, ClosedIsTable, OneTable, OneUsed, UsedAreTags};
 
 /// Where a table lists exactly the tags of the functions that a function calls, the tags of this function are the pairs of a source
 /// and a target that its paths join over that table.
@@ -38,4 +38,10 @@ pub fn callees_are_analysed_first()
 /// Where calls make no cycle and are of functions that are there, all functions are analysed where none is ready any more.
 pub fn all_functions_are_analysed()
     ensures { AllAreAnalysed }
+{}
+
+/// Where no two calls of a function have one number, the used tags of a module are one list, with their paths and the reasons on
+/// them.
+pub fn used_tags_are_one_list()
+    ensures { OneUsed }
 {}

@@ -11,6 +11,6 @@ mod used;
 pub use law::{
     all_functions_are_analysed, callees_are_analysed_first, closed_tables_are_the_table,
     tables_are_one, tags_are_joined_by_paths, tags_are_joined_over_the_tags_of_callees,
-    used_tags_are_tags,
+    used_tags_are_one_list, used_tags_are_tags,
 };
 pub use used::UsedTag;
