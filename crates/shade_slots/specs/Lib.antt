@@ -1,0 +1,2 @@
+-- Rules: Slots.
+pub mod Slots
