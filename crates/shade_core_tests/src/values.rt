@@ -254,10 +254,10 @@ fn table(rt: HostRuntime) -> Result<(), Fail> {
     assert!(&rt; large == Err(TableFault::TooLarge(4_294_967_296)));
     let rows = types.add(ShadeType::Array(wide, 3))?;
     assert!(&rt; has_layout(&types, rows, 48, 16, 16));
+    assert!(&rt; types.is_loadable(rows));
     let rest = types.add(ShadeType::RuntimeArray(small))?;
     assert!(&rt; has_layout(&types, rest, 8, 8, 8));
     assert!(&rt; !types.is_loadable(rest));
-    assert!(&rt; types.is_loadable(rows));
     assert_eq!(&rt; types.count(), 5);
     Ok(())
 }
