@@ -60,7 +60,7 @@ abbrev pub is_entry : List (List ℕ) → List Attr → Bool
 is_entry names attrs = list_any (λ a. is_entry_name names a.name) attrs
 
 abbrev pub param_steps : List (List ℕ) → Position → Member → Es
-param_steps names at m = attrs_steps names at m.attrs ++ steps_of_type role.Other m.ty ++ asks (name_of m.name) (task.Parameter (member_parts m))
+param_steps names at m = attrs_steps names at m.attrs ++ steps_of_type role.Parameter m.ty ++ asks (name_of m.name) (task.Parameter (member_parts m))
 
 abbrev pub result_steps : List (List ℕ) → FnResult → Es
 result_steps names r = attrs_steps names position.Result r.attrs ++ steps_of_type role.Other r.ty ++ asks (node_of r.ty) task.Result
@@ -94,7 +94,7 @@ decl_kind_steps names place node decl.Empty = []
 decl_kind_steps names place node (decl.Alias name ty) = steps_of_type role.Alias ty ++ asks (name_of name) (task.Alias (node_of ty))
 decl_kind_steps names place node (decl.Const b) = const_steps b
 decl_kind_steps names place node (decl.ConstAssert condition) = assert_steps condition place
-decl_kind_steps names place node (decl.Struct name members trailing end) = members_steps names members ++ asks (name_of name) (task.Struct place (map member_parts members))
+decl_kind_steps names place node (decl.Struct name members trailing end) = members_steps names members ++ asks (name_of name) (task.Struct place name.name (map member_parts members))
 decl_kind_steps names place node (decl.Var attrs v) = attrs_steps names position.Variable attrs ++ var_steps level.Module place (marks_of attrs) v
 decl_kind_steps names place node (decl.Override attrs keyword name ty value) =
     attrs_steps names position.Override attrs ++ maybe (steps_of_type role.Other) ty ++ maybe (steps_of_value None) value ++ asks (own_of node keyword) task.Override

@@ -177,12 +177,16 @@ let_steps b = binding_parts b ++ asks (name_of b.name) (task.Binds (option_map n
 abbrev pub target_steps : Expr → Es
 target_steps e = steps_of None e ++ asks (node_of e) task.Target
 
+-- what is read before it is changed is also a value, which is asked of it first
+abbrev pub changed_steps : Expr → Es
+changed_steps e = steps_of_value None e ++ asks (node_of e) task.Target
+
 abbrev pub update_steps : Update → Es
 update_steps (update.Assign target at value) = target_steps target ++ steps_of_value None value ++ asks (node_of target) (task.Assigns (node_of value))
-update_steps (update.Compound target operator at value) = target_steps target ++ steps_of_value None value ++ asks (node_of target) (task.Compound operator at (node_of value))
+update_steps (update.Compound target operator at value) = changed_steps target ++ steps_of_value None value ++ asks (node_of target) (task.Compound operator at (node_of value))
 update_steps (update.Phony underscore at value) = steps_of_value None value
-update_steps (update.Increment target at) = target_steps target ++ asks (node_of target) (task.Increment at)
-update_steps (update.Decrement target at) = target_steps target ++ asks (node_of target) (task.Decrement at)
+update_steps (update.Increment target at) = changed_steps target ++ asks (node_of target) (task.Increment at)
+update_steps (update.Decrement target at) = changed_steps target ++ asks (node_of target) (task.Decrement at)
 update_steps (update.Call e) = steps_of None e ++ asks (node_of e) task.Dropped
 
 abbrev pub simple_steps : Simple → Es

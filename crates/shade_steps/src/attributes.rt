@@ -213,7 +213,7 @@ fn first_node(attrs: &[Attr]) -> u32
     }
 }
 
-/// Adds the steps of some attributes that stand before one thing. Want of memory leaves some of the steps.
+/// Adds the steps of some attributes that stand before one thing. Takes memory for the steps.
 pub fn add_attrs(
     alloc: Global,
     names: &Names,

@@ -123,7 +123,7 @@ fn add_param(
     ensures { OnOk result (out.new ≡ out.old ++ param_steps names.now position param.now) }
 {
     add_attrs(alloc, names, position, param.attrs.as_slice(), out)?;
-    add_type(alloc, &param.ty, TypeRole::Other, out)?;
+    add_type(alloc, &param.ty, TypeRole::Parameter, out)?;
     let parts = parts_of(alloc, param)?;
     ask(name_of(param.name), Task::Parameter(parts), out)
 }
@@ -249,11 +249,12 @@ fn add_struct(
     members: &Items<Member>,
     out: &mut Items<Step>,
 ) -> Result<(), AllocError>
-    ensures { OnOk result (out.new ≡ out.old ++ (members_steps names.now members.now ++ asks (name_of at.1) (Task.Struct at.0 (map member_parts members.now)))) }
+    ensures { OnOk result (out.new ≡ out.old ++ (members_steps names.now members.now ++ asks (name_of at.1) (Task.Struct at.0 at.1.name (map member_parts members.now)))) }
 {
     add_members(alloc, names, members.as_slice(), out)?;
     let task = Task::Struct {
         place: at.0,
+        name: at.1.name,
         members: all_parts(alloc, members)?,
     };
     ask(name_of(at.1), task, out)
@@ -303,7 +304,7 @@ fn node_at(node: u32, place: Place) -> Operand
     Operand { node, place }
 }
 
-/// Adds the steps of a declaration. Want of memory leaves some of the steps.
+/// Adds the steps of a declaration. Takes memory for the steps.
 pub fn add_decl(
     alloc: Global,
     names: &Names,
@@ -371,7 +372,7 @@ fn add_requires(listed: &[Named], out: &mut Items<Step>) -> Result<(), AllocErro
     Ok(())
 }
 
-/// Adds the steps of a directive. Want of memory leaves some of the steps.
+/// Adds the steps of a directive. Takes memory for the steps.
 pub fn add_directive(directive: &Directive, out: &mut Items<Step>) -> Result<(), AllocError>
     ensures { OnOk result (out.new ≡ out.old ++ directive_steps directive.now) }
 {

@@ -100,9 +100,8 @@ fn owns(alloc: Global, arguments: &Items<Expr>) -> Result<Items<Operand>, AllocE
     Ok(made)
 }
 
-/// Adds the steps of an expression in the right side of the `&&` or `||` with the node `under`, if there is one.
-///
-/// Want of memory leaves some of the steps.
+/// Adds the steps of an expression in the right side of the `&&` or `||` with the node `under`, if there is one. Takes memory for the
+/// steps.
 #[cycle(steps)]
 pub fn add_steps(
     alloc: Global,
@@ -210,7 +209,7 @@ pub fn add_steps(
     }
 }
 
-/// Adds the steps of an expression, and that it is a value. Want of memory leaves some of the steps.
+/// Adds the steps of an expression, and that it is a value. Takes memory for the steps.
 #[cycle(steps)]
 pub fn add_value(
     alloc: Global,
@@ -255,8 +254,7 @@ fn add_listed(
     Ok(())
 }
 
-/// Adds the steps of an expression that stands for a type, and that it is one, for what it is written. Want of memory leaves some of the
-/// steps.
+/// Adds the steps of an expression that stands for a type, and that it is one, for what it is written. Takes memory for the steps.
 pub fn add_type(
     alloc: Global,
     e: &Expr,

@@ -2,7 +2,7 @@
 
 ghost use Rattle.std.specs.Prelude.{◌≡◌, ◌++◌, [], None, OnOk, option_map};
 ghost use Rattle.shade_steps.specs.Steps.{steps_of, steps_of_type, steps_of_value};
-ghost use Rattle.shade_steps.specs.Statements.{access_of, asks, assert_steps, binding_parts, const_steps, let_steps, maybe, name_of, named_steps, node_of, simple_steps, space_of, space_steps, target_steps, update_steps, value_and, var_steps};
+ghost use Rattle.shade_steps.specs.Statements.{access_of, asks, assert_steps, binding_parts, changed_steps, const_steps, let_steps, maybe, name_of, named_steps, node_of, simple_steps, space_of, space_steps, target_steps, update_steps, value_and, var_steps};
 
 use crate::attributes::ask;
 use crate::expressions::{add_steps, add_type, add_value, own_of};
@@ -193,6 +193,14 @@ fn add_target(alloc: Global, target: &Expr, out: &mut Items<Step>) -> Result<(),
     ask(own_of(target), Task::Target, out)
 }
 
+/// A variable that is read before it is changed is also a value, which is asked of it first.
+fn add_changed(alloc: Global, target: &Expr, out: &mut Items<Step>) -> Result<(), AllocError>
+    ensures { OnOk result (out.new ≡ out.old ++ changed_steps target.now) }
+{
+    add_value(alloc, target, None, out)?;
+    ask(own_of(target), Task::Target, out)
+}
+
 /// Adds the steps of what changes a variable or calls a function.
 pub(crate) fn add_update(
     alloc: Global,
@@ -214,7 +222,7 @@ pub(crate) fn add_update(
             at,
             value,
         } => {
-            add_target(alloc, target, out)?;
+            add_changed(alloc, target, out)?;
             add_value(alloc, value, None, out)?;
             let task = Task::Compound {
                 operator: *operator,
@@ -225,11 +233,11 @@ pub(crate) fn add_update(
         }
         Update::Phony { value, .. } => add_value(alloc, value, None, out),
         Update::Increment { target, at } => {
-            add_target(alloc, target, out)?;
+            add_changed(alloc, target, out)?;
             ask(own_of(target), Task::Increment { at: *at }, out)
         }
         Update::Decrement { target, at } => {
-            add_target(alloc, target, out)?;
+            add_changed(alloc, target, out)?;
             ask(own_of(target), Task::Decrement { at: *at }, out)
         }
         Update::Call(e) => {

@@ -399,7 +399,7 @@ fn add_stmts(
     Ok(())
 }
 
-/// Adds the steps of a block. Want of memory leaves some of the steps.
+/// Adds the steps of a block.
 #[cycle(statements)]
 pub(crate) fn add_block(
     alloc: Global,

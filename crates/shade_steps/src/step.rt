@@ -126,9 +126,10 @@ pub enum Task {
     Attribute(AttrParts),
     /// It is the name of an alias of this type.
     Alias(Operand),
-    /// It is the name of a struct whose first token stands at this place.
+    /// It is the name, with this number, of a struct whose first token stands at this place.
     Struct {
         place: Place,
+        name: u32,
         members: Items<MemberParts>,
     },
     /// It is the name of a parameter.
@@ -158,6 +159,8 @@ pub enum TypeRole {
     Variable(Option<Operand>),
     /// It is the type of the last member of a struct.
     LastMember,
+    /// It is the type of a parameter.
+    Parameter,
     /// It is the type of anything else.
     Other,
 }

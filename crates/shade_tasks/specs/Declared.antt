@@ -40,6 +40,7 @@ abbrev pub may_be_unsized : Known → TypeRole → ShadeType → Bool
 may_be_unsized k role.Alias ty = true
 may_be_unsized k (role.Variable word) ty = in_storage k word
 may_be_unsized k role.LastMember ty = is_runtime_array (Some ty)
+may_be_unsized k role.Parameter ty = false
 may_be_unsized k role.Other ty = false
 
 abbrev pub may_stand : Known → TypeRole → ShadeType → Bool

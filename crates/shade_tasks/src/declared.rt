@@ -40,6 +40,7 @@ fn may_be_unsized(known: &Known, role: TypeRole, ty: ShadeType) -> bool
         TypeRole::Alias => true,
         TypeRole::Variable(space) => in_storage(known, space),
         TypeRole::LastMember => is_runtime_array(Some(ty)),
+        TypeRole::Parameter => false,
         TypeRole::Other => false,
     }
 }
