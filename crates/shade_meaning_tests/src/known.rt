@@ -48,6 +48,8 @@ enum Want {
     Nothing,
     /// No row takes the types.
     Refused,
+    /// The operand there is no value.
+    NoValue(u32),
     Overflow(u32),
     ZeroDivisor(u32),
     ShiftTooLarge(u32),
@@ -161,6 +163,9 @@ fn seen_fault(fault: &TypingFault) -> Want {
             if *at == place(9) && *rule == TypeRule::Overload {
                 return Want::Refused;
             }
+            if *rule == TypeRule::Conversion {
+                return Want::NoValue(at.offset);
+            }
             Want::Other
         }
         TypingFault::Constant(fault) => seen_constant(*fault),
@@ -188,6 +193,19 @@ fn operated(alloc: Global, builtin: Builtin, idle: bool, args: &[Arg]) -> Want {
     let count = args.len().min(4);
     match known_of(alloc, args) {
         Ok(known) => seen(operate(alloc, &known, application, &operands[..count])),
+        Err(_) => Want::Other,
+    }
+}
+
+/// What is found where the second operand is no value.
+fn with_one(alloc: Global, builtin: Builtin, arg: Arg) -> Want {
+    let application = Application {
+        builtin,
+        at: place(9),
+        idle: false,
+    };
+    match known_of(alloc, &[arg]) {
+        Ok(known) => seen(operate(alloc, &known, application, &[operand(0), operand(1)])),
         Err(_) => Want::Other,
     }
 }
@@ -500,6 +518,10 @@ fn operators(rt: HostRuntime) -> Result<(), Fail> {
         let found = operated(alloc, *builtin, true, args);
         assert_eq!(rt; found, *want, "{builtin:?}");
     }
+    assert_eq!(rt;
+        with_one(alloc, Builtin::Negate, Arg::Any(I)),
+        Want::NoValue(1)
+    );
     Ok(())
 }
 

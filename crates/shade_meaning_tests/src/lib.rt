@@ -4,6 +4,8 @@
 #[cfg(test)]
 mod constants;
 #[cfg(test)]
+mod declared;
+#[cfg(test)]
 mod known;
 #[cfg(test)]
 mod reading;
