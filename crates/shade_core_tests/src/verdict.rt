@@ -5,9 +5,10 @@ use shade_core::{CoreModule, all_have_rules};
 use shade_graph::Node;
 use shade_samples::{barrier, branch, compare, entry_of, only};
 use shade_values::Op;
-use shade_verdict::violations_of;
+use shade_verdict::{Violation, violations_of};
 use sqlite_items::Items;
 use std::alloc::Global;
+use std::process::Abort;
 use std::test::Fail;
 
 /// An entry whose body is a barrier, and then `count` times `if (i < 1u) { workgroupBarrier(); }`.
@@ -35,18 +36,27 @@ const SECOND: &[Node] = &[
     Node::NonUniform,
 ];
 
+/// The violations of a module, which has to have rules.
+fn violations(
+    rt: &impl Abort,
+    alloc: Global,
+    checked: &CoreModule,
+) -> Result<Vec<Violation>, Fail> {
+    assert!(rt; all_have_rules(checked));
+    assert!(rt; checked.functions.len() <= u32::MAX as usize);
+    Ok(violations_of(alloc, checked)?)
+}
+
 #[test]
 fn barriers_under_divergent_branches(rt: HostRuntime) -> Result<(), Fail> {
     let alloc = rt.alloc();
     for (count, want) in COUNTS {
         let module = divergent(alloc, *count)?;
-        assert!(rt; all_have_rules(&module));
-        let found = violations_of(alloc, &module)?;
+        let found = violations(&rt, alloc, &module)?;
         assert_eq!(rt; found.len(), *want);
     }
     let module = divergent(alloc, 2)?;
-    assert!(rt; all_have_rules(&module));
-    let found = violations_of(alloc, &module)?;
+    let found = violations(&rt, alloc, &module)?;
     let second = found.get(1).ok_or("one violation alone")?;
     assert_eq!(rt; second.site, 6);
     assert_eq!(rt; second.path.len(), SECOND.len());

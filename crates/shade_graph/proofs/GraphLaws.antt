@@ -24,12 +24,12 @@ use Rattle.shade_graph.proofs.OrderLaws.{apart}
 
 -- nodes
 
-param_listed : (i k : ℕ) (params : List CoreParam) → k < length params → Among (Param (i + k)) (param_nodes i params)
+pub param_listed : (i k : ℕ) (params : List CoreParam) → k < length params → Among (Param (i + k)) (param_nodes i params)
 param_listed i k [] lt = absurd (omega (arith, lt))
 param_listed i zero (p ∷ params) lt = subst (λ (n : ℕ). Among (Param n) (param_nodes i (p ∷ params))) (omega arith) here
 param_listed i (suc k) (p ∷ params) lt = later (subst (λ (n : ℕ). Among (Param n) (param_nodes (i + 1) params)) (omega arith) (param_listed (i + 1) k params (omega (arith, lt))))
 
-listed_param : (i : ℕ) (params : List CoreParam) (u : Node) → Among u (param_nodes i params) → (k : ℕ) × (k < length params) × (u ≡ Param (i + k))
+pub listed_param : (i : ℕ) (params : List CoreParam) (u : Node) → Among u (param_nodes i params) → (k : ℕ) × (k < length params) × (u ≡ Param (i + k))
 listed_param i [] u h = elim h [ ]
 listed_param i (p ∷ params) u here = (0, omega arith, ap Param (omega arith))
 listed_param i (p ∷ params) u (later h) = let r = listed_param (i + 1) params u h in (r.0 + 1, omega (arith, r.1), r.2 ∙ ap Param (omega arith))
@@ -41,6 +41,11 @@ fixed_stands f u (later (later here)) = Graph.required_info
 fixed_stands f u (later (later (later here))) = Graph.non_uniform
 fixed_stands f u (later (later (later (later here)))) = Graph.start
 fixed_stands f u (later (later (later (later (later h))))) = elim h [ ]
+
+pub listed_result : (result : Option TypeId) (u : Node) → Among u (returned_nodes result) → IsSome result × (u ≡ Returned)
+listed_result None u h = elim h [ ]
+listed_result (Some ty) u here = (refl, refl)
+listed_result (Some ty) u (later h) = elim h [ ]
 
 returned_stands : (f : CoreFunction) (result : Option TypeId) (u : Node) → f.result ≡ result → Among u (returned_nodes result) → IsNode f u
 returned_stands f None u e h = elim h [ ]
@@ -59,7 +64,7 @@ listed_node f u h = elim (among_split ((fixed_nodes ++ param_nodes 0 f.params) +
   | inr statement ↦ Graph.of_statement (listed_stands (code_of f.body) u statement)
 ]
 
-result_listed : (result : Option TypeId) → IsSome result → Among Returned (returned_nodes result)
+pub result_listed : (result : Option TypeId) → IsSome result → Among Returned (returned_nodes result)
 result_listed None h = cc
 result_listed (Some ty) h = here
 

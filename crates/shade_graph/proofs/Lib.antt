@@ -7,3 +7,4 @@ pub mod Numbering
 pub mod GraphLaws
 pub mod ParamLaws
 pub mod Turns
+pub mod LimitLaws

@@ -41,8 +41,12 @@ abbrev pub returned_nodes : Option TypeId → List Node
 returned_nodes None = []
 returned_nodes (Some ty) = Returned ∷ []
 
+-- the nodes of a function whatever its statements are
+abbrev pub function_nodes : CoreFunction → List Node
+function_nodes f = (fixed_nodes ++ param_nodes 0 f.params) ++ returned_nodes f.result
+
 abbrev pub all_nodes : CoreFunction → List Node
-all_nodes f = ((fixed_nodes ++ param_nodes 0 f.params) ++ returned_nodes f.result) ++ nodes_of (code_of f.body)
+all_nodes f = function_nodes f ++ nodes_of (code_of f.body)
 
 abbrev pub Pair : Type 0
 Pair = Node × Node

@@ -1,17 +1,19 @@
 //! The uniformity graph of a function, by the numbers of its nodes.
 
-ghost use Rattle.std.specs.Prelude.{◌≡◌, ℕ, ◌<◌, ◌^◌, ◌++◌, ◌∷◌, [], map, length, slice_get, true, Some, IfOk, IfSome, IfNone};
+ghost use Rattle.std.specs.Prelude.{◌≡◌, ℕ, ◌<◌, ◌≤◌, ◌^◌, ◌↔◌, ◌++◌, ◌∷◌, [], map, length, slice_get, Contains, true, Some, IfOk, IfErr, IfSome, IfNone};
 ghost use Rattle.shade_graph.specs.Order.{IsAscending};
 ghost use Rattle.shade_core.specs.Code.{code_of};
 ghost use Rattle.shade_core.specs.Rules.{has_rules};
 ghost use Rattle.shade_reach.specs.Digraph.{JoinsNodes};
+ghost use Rattle.shade_graph.specs.declared.node.Node.{Node};
 ghost use Rattle.shade_graph.specs.declared.node.Node.TheVariants.{Start};
 ghost use Rattle.shade_graph.specs.Gathered.{edges_of};
-ghost use Rattle.shade_graph.specs.Numbered.{IsGraphOf, fixed_nodes, param_nodes, returned_nodes, all_nodes, input_pairs, param_pairs, entry_pairs, ends, Numbers, IsNumbered};
+ghost use Rattle.shade_graph.specs.Limits.{HasTooManyNodes, Refuses, most_nodes};
+ghost use Rattle.shade_graph.specs.Numbered.{IsGraphOf, fixed_nodes, param_nodes, returned_nodes, function_nodes, all_nodes, input_pairs, param_pairs, entry_pairs, ends, Numbers, IsNumbered};
 
-use crate::Node;
 use crate::gather::{Gathered, GivenEdge, gather_list};
 use crate::order::{in_order, number_of};
+use crate::{GraphFault, Node};
 use shade_base::Severity;
 use shade_core::{BuiltinInput, CoreFunction, CoreParam};
 use shade_reach::Graph;
@@ -100,6 +102,18 @@ fn add_returned(function: &CoreFunction, nodes: &mut Vec<Node>) -> Result<(), Al
         nodes.push(Node::Returned)?;
     }
     Ok(())
+}
+
+/// Adds the nodes that the graph of a function has whatever its statements are: those of every graph, of its parameters and of its result.
+///
+/// Takes memory for each of them. Parameters have numbers of 32 bits.
+pub fn add_function_nodes(function: &CoreFunction, nodes: &mut Vec<Node>) -> Result<(), AllocError>
+    requires { length function.now.params < 2 ^ 32 }
+    ensures { IfOk result (λ _. nodes.new.items ≡ nodes.old.items ++ function_nodes function.now) }
+{
+    add_fixed(nodes)?;
+    add_params(function.params.as_slice(), nodes)?;
+    add_returned(function, nodes)
 }
 
 /// Adds the edge of an input that differs from lane to lane.
@@ -213,9 +227,7 @@ fn gather(alloc: Global, function: &CoreFunction) -> Result<Gathered, AllocError
         nodes: Vec::new(alloc),
         edges: Vec::new(alloc),
     };
-    add_fixed(&mut gathered.nodes)?;
-    add_params(function.params.as_slice(), &mut gathered.nodes)?;
-    add_returned(function, &mut gathered.nodes)?;
+    add_function_nodes(function, &mut gathered.nodes)?;
     gather_list(&function.body, Node::Start, &mut gathered)?;
     Ok(gathered)
 }
@@ -237,23 +249,60 @@ fn numbered_edges(
     Ok(edges)
 }
 
-/// The uniformity graph of a function that has rules.
-///
-/// Takes time in the order of a sort of its nodes and edges, and memory for each of them. Nodes have numbers of 32 bits:
-/// where there are more of them than that, the answer is that of a graph too large for the memory.
-pub fn graph_of(alloc: Global, function: &CoreFunction) -> Result<FnGraph, AllocError>
-    requires { has_rules function.now ≡ true }
-    ensures { IfOk result (λ graph. IsGraphOf function.now graph) }
+/// The most nodes of a graph.
+const MOST_NODES: usize = 1_048_576;
+
+/// The nodes of a function in node order and the edges that its statements give, where there are not too many nodes.
+fn few_gathered(alloc: Global, function: &CoreFunction) -> Result<Gathered, GraphFault>
+    ensures same { IfOk result (λ gathered. (node : Node) → Contains gathered.nodes.items node ↔ Contains (all_nodes function.now) node) }
+    ensures ascending { IfOk result (λ gathered. IsAscending gathered.nodes.items) }
+    ensures edges { IfOk result (λ gathered. gathered.edges.items ≡ edges_of Start (code_of function.now.body)) }
+    ensures params { IfOk result (λ _. length function.now.params ≤ most_nodes) }
+    ensures few { IfOk result (λ gathered. length gathered.nodes.items ≤ most_nodes) }
+    ensures refused { IfErr result (Refuses function.now) }
 {
-    if function.params.len() > u32::MAX as usize {
-        return Err(AllocError);
+    if function.params.len() > MOST_NODES {
+        return Err(GraphFault::TooManyNodes);
     }
     let Gathered { nodes, edges } = gather(alloc, function)?;
     let nodes = in_order(nodes);
-    if nodes.len() > u32::MAX as usize {
-        return Err(AllocError);
+    if nodes.len() > MOST_NODES {
+        return Err(GraphFault::TooManyNodes);
     }
+    Ok(Gathered { nodes, edges })
+}
+
+/// The graph of these nodes and of the edges that the statements of a function give.
+fn graph_by(
+    alloc: Global,
+    function: &CoreFunction,
+    gathered: Gathered,
+) -> Result<FnGraph, AllocError>
+    requires same { (node : Node) → Contains gathered.nodes.items node ↔ Contains (all_nodes function.now) node }
+    requires ascending { IsAscending gathered.nodes.items }
+    requires edges { gathered.edges.items ≡ edges_of Start (code_of function.now.body) }
+    requires params { length function.now.params ≤ most_nodes }
+    requires few { length gathered.nodes.items ≤ most_nodes }
+    ensures graph { IfOk result (λ graph. IsGraphOf function.now graph) }
+    ensures few { IfOk result (λ _. HasTooManyNodes function.now → ⊥) }
+{
+    let Gathered { nodes, edges } = gathered;
     let edges = numbered_edges(alloc, function, &nodes, &edges)?;
     let graph = Graph::new(alloc, nodes.len() as u32, edges)?;
     Ok(FnGraph { nodes, graph })
+}
+
+/// The uniformity graph of a function that has rules.
+///
+/// Takes time in the order of a sort of its nodes and edges, and memory for each of them. A function with more than 1,048,576 nodes has no
+/// graph, and no other is refused as `TooManyNodes`. The answer is `NoMemory` where memory is wanting, which may show before nodes are counted.
+pub fn graph_of(alloc: Global, function: &CoreFunction) -> Result<FnGraph, GraphFault>
+    requires { has_rules function.now ≡ true }
+    ensures graph { IfOk result (λ graph. IsGraphOf function.now graph) }
+    ensures few { IfOk result (λ _. HasTooManyNodes function.now → ⊥) }
+    ensures refused { IfErr result (Refuses function.now) }
+{
+    let gathered = few_gathered(alloc, function)?;
+    let graph = graph_by(alloc, function, gathered)?;
+    Ok(graph)
 }

@@ -6,7 +6,7 @@ ghost use Rattle.shade_graph.specs.declared.node.Node.{Node};
 
 use crate::Node;
 
-/// The same nodes in node order, each once.
+/// The same nodes in node order, each once. Takes the time of a sort, and no memory.
 pub fn in_order(nodes: Vec<Node>) -> Vec<Node>
     ensures same { (node : Node) → Contains result.items node ↔ Contains nodes.items node }
     ensures ascending { IsAscending result.items }

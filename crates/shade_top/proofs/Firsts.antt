@@ -1,8 +1,8 @@
 -- Shaders of the first form: their control, and that they are ready.
-use Rattle.std.proofs.Common.{◌≡◌, refl, sym, ◌∙◌, ap, ap₂, subst, ℕ, zero, suc, ◌+◌, ◌≤◌, ◌&&◌, arith, ◌⊎◌, inl, inr, true, false, List, [], ◌∷◌, ◌++◌, map, Option, Some, None}
+use Rattle.std.proofs.Common.{◌≡◌, refl, sym, ◌∙◌, ap, ap₂, subst, ℕ, zero, suc, ◌+◌, ◌*◌, ◌<◌, ◌≤◌, ◌&&◌, length, arith, ◌⊎◌, inl, inr, true, false, List, [], ◌∷◌, ◌++◌, map, Option, Some, None}
 use Rattle.std.specs.Prelude.{◌==◌, slice_get}
 use Rattle.std.proofs.lemmas.Bool.{eq-eqb}
-use Rattle.std.proofs.lemmas.List.{append_assoc, append-nil}
+use Rattle.std.proofs.lemmas.List.{append_assoc, append-nil, length-append}
 use Rattle.shade_base.specs.declared.place.Place.{Place}
 use Rattle.shade_base.specs.declared.severity.Severity.{Severity}
 use Rattle.shade_base.specs.declared.severity.Severity.TheVariants.{Error, Off}
@@ -22,12 +22,15 @@ use Rattle.shade_core.specs.Control.{HasNoBehaviourFault}
 use Rattle.shade_core.specs.Rules.{have_rules, has_rules, all_have_rules}
 use Rattle.shade_core.specs.Standing.{Standing, statements, are_numbered}
 use Rattle.shade_core.proofs.CodeLaws.{act_is, statement_is, layer}
+use Rattle.shade_graph.specs.Limits.{HasTooManyNodes}
+use Rattle.shade_graph.proofs.LimitLaws.{has_room}
 use Rattle.shade_verdict.specs.Clean.{HasOff, off_here, off_rest, off_in_one, off_in_two, off_behind}
 use Rattle.shade_first.specs.declared.tree.FirstItem.{FirstItem}
 use Rattle.shade_first.specs.declared.tree.FirstShader.{FirstShader}
 use Rattle.shade_first.specs.Lowering as lower
 use Rattle.shade_first.specs.Lowering.{Lowers, function_of, condition, last_return, limit_of}
 use Rattle.shade_first.specs.FirstForm.{StandsFor}
+use Rattle.shade_first.specs.Laws.{FewStatements}
 use Rattle.shade_lane.specs.Lane.{ends_in_return}
 use Rattle.shade_group.specs.Group.{entry_runs}
 use Rattle.shade_top.specs.Ready.{FirstFormIsReady}
@@ -140,6 +143,20 @@ function_numbered : (s : FirstShader) (lowered : List CoreStatement) (next : ℕ
 function_numbered s lowered next l =
     ap (are_numbered 0) (sym (append-nil (statements (code_of (function_of s lowered next).body)))) ∙ (numbered_items (body_items s lowered next l) [] ∙ ap (λ b. b && true) (eq-eqb next next refl))
 
+-- ---- they are few
+
+count_items : {n m : ℕ} {tail c : Code} → Items n tail c m → length (statements c) + n ≡ m + length (statements tail)
+count_items {n = n} {tail = tail} none = omega arith
+count_items (meet i) = omega (arith, count_items i)
+count_items (split {inner = inner} {c = c} i j) =
+    omega (arith, length-append (statements inner ++ []) (statements c), ap length (append-nil (statements inner)), count_items i, count_items j)
+
+function_small : (s : FirstShader) (lowered : List CoreStatement) (next : ℕ) → Lowers s.items 0 lowered next → next < 4096 → HasTooManyNodes (function_of s lowered next) → ⊥
+function_small s lowered next l lt =
+    let count : length (statements (code_of (function_of s lowered next).body)) + 0 ≡ next + 1 = count_items (body_items s lowered next l) in
+    let room : 6 + 1 + 4 * length (statements (code_of (function_of s lowered next).body)) ≤ 1048576 = omega (arith, count, lt) in
+    has_room (function_of s lowered next) room
+
 -- ---- a shader of the first form is ready
 
 -- what holds of the function of a shader, holds of each of its functions
@@ -148,8 +165,12 @@ of_each P text shader stands h k f at =
     let one : CoreFunction = function_of stands.shader stands.stands.statements stands.stands.next in
     subst P (sym (only_one one f k (sym (ap (λ fs. slice_get fs k) stands.stands.functions) ∙ at))) h
 
-pub ready : FirstFormIsReady
-ready text shader stands =
+pub rules_of : (text : List ℕ) (shader : CoreModule) → StandsFor text shader → all_have_rules shader.functions ≡ true
+rules_of text shader stands =
+    ap all_have_rules stands.stands.functions ∙ ap (λ b. b && true) (function_rules stands.shader stands.stands.statements stands.stands.next stands.stands.lowered)
+
+pub ready : FewStatements → FirstFormIsReady
+ready few text shader stands =
     let s : FirstShader = stands.shader in
     let one : CoreFunction = function_of s stands.stands.statements stands.stands.next in
     let has : has_rules one ≡ true = function_rules s stands.stands.statements stands.stands.next stands.stands.lowered in
@@ -157,9 +178,13 @@ ready text shader stands =
     let most : s.size ≤ 256 = stands.spells.spelled.lanes.most in
     let body : entry_runs (Some one) = (omega arith, omega arith, has, items_end (body_items s stands.stands.statements stands.stands.next stands.stands.lowered) refl) in
     record {
-      rules = ap all_have_rules stands.stands.functions ∙ ap (λ b. b && true) has;
+      rules = rules_of text shader stands;
       numbered = of_each (λ f. are_numbered 0 (statements (code_of f.body)) ≡ true) text shader stands (function_numbered s stands.stands.statements stands.stands.next stands.stands.lowered);
       rootless = stands.stands.roots;
+      few = omega (arith, ap length stands.stands.functions);
+      small = λ large. of_each (λ f. HasTooManyNodes f → ⊥) text shader stands
+          (function_small s stands.stands.statements stands.stands.next stands.stands.lowered (omega (arith, few text shader stands, stands.spells.short)))
+          large.number large.function large.numbered large.many;
       runs = record { body = subst (λ (o : Option CoreFunction). entry_runs o) (sym (ap (λ fs. slice_get fs 0) stands.stands.functions)) body };
     }
 

@@ -16,7 +16,7 @@ use Rattle.shade_verdict.specs.Violations.{IsViolation, Shows, second_node}
 use Rattle.shade_first.specs.Lowering.{function_of}
 use Rattle.shade_first.specs.FirstForm.{StandsFor}
 use Rattle.shade_top.specs.Ready.{CleanWithoutErrors}
-use Rattle.shade_top.proofs.Firsts.{Items, none, meet, split, body_items, only_one, ready, none_faulty, none_off}
+use Rattle.shade_top.proofs.Firsts.{Items, none, meet, split, body_items, only_one, rules_of, none_faulty, none_off}
 
 -- each barrier of a list has the severity error
 abbrev AsksError : Plain → Type 0
@@ -89,7 +89,7 @@ told functions v node shows = record { function = shows.function; numbered = sho
 pub clean_exactly : CleanWithoutErrors
 clean_exactly text shader violations stands are = (
   λ without. record {
-    rules = (ready text shader stands).rules;
+    rules = rules_of text shader stands;
     behaved = none_faulty text shader stands;
     none = λ number severity node v.
         (let found : (w : Violation) × Among w violations × (w.function ≡ number) × (w.severity ≡ severity) × (second_node w.path ≡ node) = are.complete number severity node v in

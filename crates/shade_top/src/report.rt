@@ -2,6 +2,7 @@
 
 ghost use Rattle.std.specs.Prelude.{◌≡◌, ◌<◌, ◌≤◌, ◌↔◌, ℕ, List, IsTrue, IfOk};
 ghost use Rattle.shade_core.specs.Standing.{AreNumbered};
+ghost use Rattle.shade_verdict.specs.Violations.{AreViolations};
 ghost use Rattle.shade_report.specs.CheckReport.{count_of};
 ghost use Rattle.shade_files.specs.Changes.{shelf_change};
 ghost use Rattle.shade_top.specs.Ready.{IsReady};
@@ -16,6 +17,7 @@ use crate::text::{Reading, TEXT_LIMIT, read_shader};
 use shade_base::{Severity, Shelf, Status};
 use shade_core::CoreModule;
 use shade_files::read;
+use shade_graph::GraphFault;
 use shade_report::{Refusal, check_text, count_with, refusal_text};
 use shade_verdict::{Violation, violations_of};
 use std::alloc::{AllocError, Global};
@@ -88,8 +90,20 @@ fn judge(alloc: Global, shader: &CoreModule) -> Result<Report, AllocError>
     requires { IsReady shader.now }
     ensures { (bytes : List ℕ) → IsModuleOf bytes shader.now → IfOk result (λ report. IsChecked bytes (answer_of report)) }
 {
-    let violations = violations_of(alloc, shader)?;
+    let violations = violations_in(alloc, shader)?;
     verdict(alloc, shader, &violations)
+}
+
+/// The violations of a module that is ready. Its functions are small enough for their graphs, so memory alone may be wanting.
+pub fn violations_in(alloc: Global, shader: &CoreModule) -> Result<Vec<Violation>, AllocError>
+    requires { IsReady shader.now }
+    ensures { IfOk result (λ violations. AreViolations shader.now.functions violations.items) }
+{
+    match violations_of(alloc, shader) {
+        Ok(violations) => Ok(violations),
+        Err(GraphFault::NoMemory) => Err(AllocError),
+        Err(GraphFault::TooManyNodes) => unreachable!(),
+    }
 }
 
 /// Whether some violation is an error.

@@ -10,7 +10,7 @@ ghost use Rattle.shade_top.specs.Report.{answer_of, RunOutcome};
 ghost use Rattle.shade_top.specs.Text.{IsModuleOf};
 
 use crate::ready::first_form_is_ready;
-use crate::report::{Report, has_error, refused, unread, verdict};
+use crate::report::{Report, has_error, refused, unread, verdict, violations_in};
 use crate::text::{Reading, read_shader};
 use shade_base::{Shelf, Status};
 use shade_core::CoreModule;
@@ -19,7 +19,6 @@ use shade_group::{Group, RunEnd};
 use shade_job::{JobFault, MOST_BYTES, read_steps};
 use shade_mem::Inputs;
 use shade_report::{job_refusal_text, run_text};
-use shade_verdict::violations_of;
 use sqlite_items::Items;
 use std::alloc::{AllocError, Global};
 
@@ -53,7 +52,7 @@ fn run_shader<H: Shelf>(
     ensures outcome { (bytes : List ℕ) → IsModuleOf bytes shader.now → RunOutcome (shelf_change H.texts H.failed shelf.old shelf.new) bytes job.now result }
     ensures texts { H.texts shelf.new ≡ H.texts shelf.old }
 {
-    let violations = violations_of(alloc, shader)?;
+    let violations = violations_in(alloc, shader)?;
     if has_error(&violations) {
         return verdict(alloc, shader, &violations);
     }

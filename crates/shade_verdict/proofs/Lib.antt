@@ -4,3 +4,4 @@ pub mod Sites
 pub mod FoundLaws
 pub mod TargetLaws
 pub mod RuleLaws
+pub mod SizeLaws

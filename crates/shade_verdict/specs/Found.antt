@@ -5,6 +5,7 @@ use Rattle.shade_core.specs.declared.module.CoreFunction.{CoreFunction}
 use Rattle.shade_graph.specs.declared.node.Node.{Node}
 use Rattle.shade_graph.specs.declared.node.Node.TheVariants.{Required, NonUniform}
 use Rattle.shade_graph.specs.Graph.{Edge, Among}
+use Rattle.shade_graph.specs.Limits.{HasTooManyNodes}
 use Rattle.shade_graph.specs.Order.{NodeLess, severity_rank}
 use Rattle.shade_graph.specs.Numbered.{FunctionGraph}
 use Rattle.shade_reach.specs.Digraph.{Digraph, Towards, JoinsNodes}
@@ -58,3 +59,7 @@ NoNode node = ⊥
 -- the first nodes that are asked for
 abbrev pub IsEarly : List Node → List ℕ → ℕ → Node → Type 0
 IsEarly nodes targets index node = (j : ℕ) × Among j (take index targets) × (slice_get nodes j ≡ Some node)
+
+-- none of the first functions has too many nodes
+abbrev pub AreSmall : List CoreFunction → ℕ → Type 0
+AreSmall functions k = (number : ℕ) (f : CoreFunction) → number < k → slice_get functions number ≡ Some f → HasTooManyNodes f → ⊥

@@ -3,9 +3,12 @@
 use Rattle.std.specs.Prelude.{◌≡◌, ℕ, ◌<◌, ◌≤◌, ◌⊎◌, List, [], ◌∷◌, map, Some, None, slice_get}
 use Rattle.shade_base.specs.declared.severity.Severity.{Severity}
 use Rattle.shade_core.specs.declared.module.CoreFunction.{CoreFunction}
+use Rattle.shade_graph.specs.declared.fault.GraphFault.{GraphFault}
+use Rattle.shade_graph.specs.declared.fault.GraphFault.TheVariants.{TooManyNodes, NoMemory}
 use Rattle.shade_graph.specs.declared.node.Node.{Node}
 use Rattle.shade_graph.specs.declared.node.Node.TheVariants.{Required, NonUniform}
 use Rattle.shade_graph.specs.Graph.{Edge, Gives, Among}
+use Rattle.shade_graph.specs.Limits.{HasTooManyNodes}
 use Rattle.shade_graph.specs.Order.{NodeLess, severity_rank}
 use Rattle.shade_reach.specs.Paths.{IsPath, IsLeastPath}
 use Rattle.shade_verdict.specs.declared.violation.PathStep.{PathStep}
@@ -63,3 +66,15 @@ pub record AreViolations (functions : List CoreFunction) (violations : List Viol
   pub complete : (number : ℕ) (severity : Severity) (node : Node) → IsViolation functions number severity node
       → (v : Violation) × Among v violations × (v.function ≡ number) × (v.severity ≡ severity) × (second_node v.path ≡ node)
   pub ordered : Ascends violations
+
+-- some function has more nodes than a graph may have
+pub record HasLargeFunction (functions : List CoreFunction) : Type 0 where
+  pub number : ℕ
+  pub function : CoreFunction
+  pub numbered : slice_get functions number ≡ Some function
+  pub many : HasTooManyNodes function
+
+-- why no violations are told
+abbrev pub IsRefused : List CoreFunction → GraphFault → Type 0
+IsRefused functions TooManyNodes = HasLargeFunction functions
+IsRefused functions NoMemory = Unit {0}

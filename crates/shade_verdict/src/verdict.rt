@@ -1,19 +1,19 @@
 //! The violations of a module.
 
-ghost use Rattle.std.specs.Prelude.{◌≡◌, ℕ, ◌+◌, ◌<◌, ◌^◌, List, ◌∷◌, All, map, length, slice_get, true, Some, IfOk};
+ghost use Rattle.std.specs.Prelude.{◌≡◌, ℕ, ◌+◌, ◌<◌, ◌^◌, List, ◌∷◌, All, map, length, slice_get, true, Some, IfOk, IfErr};
 ghost use Rattle.shade_core.specs.declared.module.CoreFunction.{CoreFunction};
 ghost use Rattle.shade_core.specs.Rules.{all_have_rules};
 ghost use Rattle.shade_graph.specs.declared.node.Node.TheVariants.{Required, NonUniform};
 ghost use Rattle.shade_graph.specs.Graph.{Edge};
 ghost use Rattle.shade_graph.specs.Order.{severity_rank};
 ghost use Rattle.shade_graph.specs.Numbered.{IsGraphOf};
-ghost use Rattle.shade_verdict.specs.Violations.{plain_step, AreViolations};
+ghost use Rattle.shade_verdict.specs.Violations.{plain_step, AreViolations, HasLargeFunction, IsRefused};
 ghost use Rattle.shade_verdict.specs.Found.{node_at, LeadsToNonUniform, Adds, AreFound, NoNode};
 
 use crate::violation::{NodePath, PathStep, Violation};
 use shade_base::Severity;
 use shade_core::{CoreFunction, CoreModule};
-use shade_graph::{FnGraph, Node, graph_of};
+use shade_graph::{FnGraph, GraphFault, Node, graph_of};
 use shade_reach::PathsTo;
 use sqlite_items::Items;
 use std::alloc::{AllocError, Global};
@@ -126,15 +126,16 @@ fn add_function(
 /// The violations of a module that has rules, by function, then severity, then the node that is asked for.
 ///
 /// Each has the least path to the non-uniform node. Takes time and memory in the order of the graph of each function, of one
-/// search through it, and of the paths that are told. Functions have numbers of 32 bits, as the nodes of a graph do.
-pub fn violations_of(alloc: Global, checked: &CoreModule) -> Result<Vec<Violation>, AllocError>
-    requires { all_have_rules checked.now.functions ≡ true }
-    ensures { IfOk result (λ violations. AreViolations checked.now.functions violations.items) }
+/// search through it, and of the paths that are told; without it the answer is `NoMemory`. The answer is `TooManyNodes` only where some
+/// function has more nodes than a graph may have, and there are no violations of a module that has such a function.
+pub fn violations_of(alloc: Global, checked: &CoreModule) -> Result<Vec<Violation>, GraphFault>
+    requires rules { all_have_rules checked.now.functions ≡ true }
+    requires few { length checked.now.functions < 2 ^ 32 }
+    ensures violations { IfOk result (λ violations. AreViolations checked.now.functions violations.items) }
+    ensures small { IfOk result (λ _. HasLargeFunction checked.now.functions → ⊥) }
+    ensures refused { IfErr result (IsRefused checked.now.functions) }
 {
     let functions = checked.functions.as_slice();
-    if functions.len() > u32::MAX as usize {
-        return Err(AllocError);
-    }
     let mut out = Vec::new(alloc);
     let mut number = 0;
     'functions: for function in functions {
