@@ -30,7 +30,7 @@ pub data Rest : Type 0 where
   back : (number function : ℕ) (args : List Argument) → Rest → Rest
 
 -- Where a lane stands: past its entry, before the first statement of a list, at the end of a turn, or past the last statement of a function
--- that was called. A lane stays at the last of these for ever; no module of the shape has such a function.
+-- that was called. A lane stays at the last of these for ever; no module without a fault of behaviour has such a function.
 pub data Place : Type 0 where
   Over : Place
   First : Code → Rest → Place
