@@ -1,0 +1,2 @@
+-- Rules: Marks.
+pub mod Marks
