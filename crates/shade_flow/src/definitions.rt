@@ -11,8 +11,8 @@ use shade_core::{Base, CoreFunction, CoreParam};
 use shade_values::Space;
 use std::alloc::{AllocError, Global};
 
-/// Whether a parameter is a pointer of space function.
-fn points_to_local(param: CoreParam) -> bool
+/// Whether a parameter is a pointer of space function. Takes no memory.
+pub fn points_to_local(param: CoreParam) -> bool
     ensures { result ≡ points param }
 {
     match param {
@@ -31,8 +31,10 @@ fn has_pointer(params: &[CoreParam], number: u32) -> bool
     }
 }
 
-/// Whether a variable is a local of the function or what a parameter of space function points to.
-fn is_tracked(function: &CoreFunction, variable: Base) -> bool
+/// Whether the definitions of a variable are followed: it is a local of the function or what a parameter of space function points to.
+///
+/// Takes no memory.
+pub fn is_tracked(function: &CoreFunction, variable: Base) -> bool
     ensures { result ≡ tracked function.now variable }
 {
     match variable {

@@ -21,6 +21,7 @@ mod writes;
 pub use counted::is_counted;
 pub use definition::Definition;
 use definition::{Defined, Write};
+pub use definitions::{is_tracked, points_to_local};
 pub use kept::{Definitions, Reaching};
 pub use law::reaching_by_exits;
 pub use point::Point;
