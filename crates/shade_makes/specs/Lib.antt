@@ -1,0 +1,2 @@
+-- Rules: Zeros.
+pub mod Zeros
