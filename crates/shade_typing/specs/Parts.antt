@@ -164,6 +164,11 @@ applied op (Some values) = Some (Apply op values)
 abbrev pub taken_of : Known → Operand → List Operand → Accessed → Answer
 taken_of k whole operands a = Ok (part_found (what_in k.facts whole.node) (applied a.op (values_of k.facts operands)) a)
 
+-- a part that is no constant is no AbstractInt
+abbrev pub settled_if : Bool → Accessed → Accessed
+settled_if true a = a
+settled_if false a = accessed (concrete a.ty) a.op a.reach
+
 -- what has no type is no value, and has no parts
 abbrev pub typed : Option ShadeType → Operand → (ShadeType → Answer) → Answer
 typed None o answer = breaks o.place rule.Conversion
@@ -173,7 +178,7 @@ typed (Some ty) o answer = answer ty
 
 abbrev pub member_by : Option Accessed → Known → Operand → Place → Answer
 member_by None k whole place = breaks place rule.Access
-member_by (Some a) k whole place = taken_of k whole (whole ∷ []) a
+member_by (Some a) k whole place = taken_of k whole (whole ∷ []) (settled_if (is_some (value_of_node k.facts whole.node)) a)
 
 abbrev pub member_answer : Known → Operand → Option (List ℕ) → Place → Answer
 member_answer k whole text place = typed (type_of_node k whole.node) whole (λ ty. member_by (named_part k.types ty text) k whole place)
@@ -205,15 +210,16 @@ index_unfit false (Some w) None whole index = unfit_at w whole.place
 index_unfit false None (Some i) whole index = unfit_at i index.place
 index_unfit _ _ _ whole index = None
 
--- a part by an index that is no constant is no AbstractInt
-abbrev pub settled_if : Bool → Accessed → Accessed
-settled_if true a = a
-settled_if false a = accessed (concrete a.ty) a.op a.reach
+-- whether two values are constant
+abbrev pub both : Option Value → Option Value → Bool
+both (Some v) (Some w) = true
+both _ _ = false
 
 abbrev pub within_bounds : Known → Bool → Operand → Operand → Accessed → Answer
 within_bounds k idle whole index a =
     unless_unfit (index_unfit idle (value_of_node k.facts whole.node) (value_of_node k.facts index.node) whole index)
-    (taken_of k whole (whole ∷ index ∷ []) (settled_if (is_some (value_of_node k.facts index.node)) a))
+    (taken_of k whole (whole ∷ index ∷ [])
+    (settled_if (both (value_of_node k.facts whole.node) (value_of_node k.facts index.node)) a))
 
 abbrev pub element_by : Option Accessed → ShadeType → Known → Bool → Operand → Operand → Place → Place → Answer
 element_by None ty k idle whole index bracket place = breaks place rule.Access

@@ -11,7 +11,7 @@ ghost use Rattle.shade_known.specs.Answers.{Answers};
 ghost use Rattle.shade_known.specs.Keeps.{IsFoundOf};
 ghost use Rattle.shade_known.specs.Lookups.{value_of_node, values_of, what_in};
 ghost use Rattle.shade_known.specs.Operates.{concrete, settled};
-ghost use Rattle.shade_typing.specs.Parts.{accessed, accessed_by, applied, by_letters, count_of, element_answer, element_part, exchanged_part, in_memory, index_unfit, is_integer, is_outside, letters_of, member_answer, member_from, named_part, part_by_name, part_found, settled_if, unfit_at, vector_part, within_bounds};
+ghost use Rattle.shade_typing.specs.Parts.{accessed, accessed_by, applied, both, by_letters, count_of, element_answer, element_part, exchanged_part, in_memory, index_unfit, is_integer, is_outside, letters_of, member_answer, member_from, named_part, part_by_name, part_found, settled_if, unfit_at, vector_part, within_bounds};
 
 use crate::letters::{Letters, letters_of};
 use crate::values::breaks;
@@ -272,8 +272,41 @@ fn taken_of(
     Ok(part_found(known, whole, part, value))
 }
 
+fn settled(scalar: Scalar) -> Scalar
+    ensures { result ≡ settled scalar }
+{
+    match scalar {
+        Scalar::Abstract => Scalar::I32,
+        _ => scalar,
+    }
+}
+
+/// Gives the type of a scalar or a vector with `i32` in place of AbstractInt, and each other type as it is. Takes no memory.
+pub fn concrete(types: &TypeTable, ty: ShadeType) -> ShadeType
+    requires { IsOf types.now ty }
+    ensures ty { result ≡ concrete ty }
+    ensures of { IsOf types.now result }
+{
+    match ty {
+        ShadeType::Plain(scalar) => ShadeType::Plain(settled(scalar)),
+        ShadeType::Vector(count, scalar) => ShadeType::Vector(count, settled(scalar)),
+        _ => ty,
+    }
+}
+
+fn settled_if(is_constant: bool, types: &TypeTable, part: Accessed) -> Accessed
+    requires { IsOf types.now part.ty }
+    ensures part { result ≡ settled_if is_constant part }
+    ensures of { IsOf types.now result.ty }
+{
+    if is_constant {
+        return part;
+    }
+    part_of(concrete(types, part.ty), part.op, part.reach)
+}
+
 /// Gives a part by its name, of what stands before the `.`: of memory the memory of the part, but a value where several parts of a vector
-/// are named; of a value the value of the part, which is constant where the whole is.
+/// are named; of a value the value of the part, which is constant where the whole is, and no AbstractInt where it is not.
 ///
 /// The rule of conversions fails at the whole where it is no value, and the rule of accesses at the place, the first token of both, where
 /// it has no such part. Takes memory for the value.
@@ -294,6 +327,8 @@ pub fn member(
     let Some(part) = named_part(&known.types, ty, names, member.name) else {
         return Err(breaks(place, TypeRule::Access));
     };
+    let is_constant = value_at(&known.facts, whole.node).is_some();
+    let part = settled_if(is_constant, &known.types, part);
     Ok(taken_of(alloc, known, &[whole], whole.node, part)?)
 }
 
@@ -363,45 +398,23 @@ fn index_unfit(known: &Known, idle: bool, whole: Operand, index: Operand) -> Opt
     }
 }
 
-fn settled(scalar: Scalar) -> Scalar
-    ensures { result ≡ settled scalar }
-{
-    match scalar {
-        Scalar::Abstract => Scalar::I32,
-        _ => scalar,
-    }
-}
-
-/// Gives the type of a scalar or a vector with `i32` in place of AbstractInt, and each other type as it is. Takes no memory.
-pub fn concrete(types: &TypeTable, ty: ShadeType) -> ShadeType
-    requires { IsOf types.now ty }
-    ensures ty { result ≡ concrete ty }
-    ensures of { IsOf types.now result }
-{
-    match ty {
-        ShadeType::Plain(scalar) => ShadeType::Plain(settled(scalar)),
-        ShadeType::Vector(count, scalar) => ShadeType::Vector(count, settled(scalar)),
-        _ => ty,
-    }
-}
-
-fn settled_if(is_constant: bool, types: &TypeTable, part: Accessed) -> Accessed
-    requires { IsOf types.now part.ty }
-    ensures part { result ≡ settled_if is_constant part }
-    ensures of { IsOf types.now result.ty }
-{
-    if is_constant {
-        return part;
-    }
-    part_of(concrete(types, part.ty), part.op, part.reach)
-}
-
 /// An access by an index: what stands before the `[`, the place of that, and the index.
 #[derive(Clone, Copy, Debug, PartialEq, Eq)]
 pub struct Subscript {
     pub whole: Operand,
     pub bracket: Place,
     pub index: Operand,
+}
+
+fn are_constant(known: &Known, whole: Operand, index: Operand) -> bool
+    ensures { result ≡ both (value_of_node known.now.facts whole.node) (value_of_node known.now.facts index.node) }
+{
+    let whole_value = value_at(&known.facts, whole.node);
+    let index_value = value_at(&known.facts, index.node);
+    match (whole_value, index_value) {
+        (Some(_), Some(_)) => true,
+        _ => false,
+    }
 }
 
 /// The part that an index names which lies outside of nothing.
@@ -420,7 +433,7 @@ fn within_bounds(
     if let Some(place) = index_unfit(known, idle, whole, index) {
         return Err(TypingFault::Constant(ConstFault::Overflow(place)));
     }
-    let is_constant = value_at(&known.facts, index.node).is_some();
+    let is_constant = are_constant(known, whole, index);
     let part = settled_if(is_constant, &known.types, part);
     Ok(taken_of(alloc, known, &[whole, index], whole.node, part)?)
 }
