@@ -1,10 +1,10 @@
 -- Rule: what is found of a node is known from then on in place of what was known of it, and of no other node anything else. Its type has an
 -- id, new or not. Where nothing is found, all stays as it was: a node of which more is asked keeps what it is.
-use Rattle.std.specs.Prelude.{◌≡◌, ℕ, List, Option, Some, slice_get, slice_set}
+use Rattle.std.specs.Prelude.{◌≡◌, ℕ, List, Option, Some, slice_get, slice_set, Contains}
 use Rattle.shade_base.specs.declared.place.Place.{Place}
 use Rattle.shade_values.specs.declared.types.ShadeType.{ShadeType}
 use Rattle.shade_values.specs.declared.types.TypeId.{TypeId}
-use Rattle.shade_values.specs.Table.{Table}
+use Rattle.shade_values.specs.Table.{Table, with_type}
 use Rattle.shade_values.specs.Shape.{spell, shapes}
 use Rattle.shade_values.specs.Layouts.{IsLarge}
 use Rattle.shade_values.specs.Sound.{Grows, IsOf}
@@ -17,10 +17,13 @@ use Rattle.shade_known.specs.declared.fault.TypingFault.{TypingFault}
 use Rattle.shade_known.specs.declared.fault.TypingFault.TheVariants as fault
 use Rattle.shade_known.specs.declared.fault.TypeRule.TheVariants as rule
 
--- an id of a type, which the old table may lack; all other ids stay what they are
+-- the one id of a type: a table that has the type stays as it is, and one that lacks it gets it behind all others
 pub record IsIdOf (old new : Table) (ty : ShadeType) (id : TypeId) : Type 0 where
   pub names : slice_get new.types id.0 ≡ Some ty
+  pub only : (n : ℕ) → slice_get new.types n ≡ Some ty → n ≡ id.0
   pub grows : Grows old new
+  pub known : Contains old.types ty → new ≡ old
+  pub added : ¬ Contains old.types ty → new ≡ with_type old ty
 
 abbrev pub with_fact : List (Option What) → ℕ → What → List (Option What)
 with_fact facts node w = slice_set facts node (Some w)

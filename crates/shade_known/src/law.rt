@@ -1,6 +1,6 @@
 //! Laws, each the contract of a function without a body of its own.
 
-ghost use Rattle.shade_known.specs.Laws.{OperatesInOneWay, ConvertsInOneWay};
+ghost use Rattle.shade_known.specs.Laws.{OperatesInOneWay, ConvertsInOneWay, KeepsInOneWay};
 
 use shade_overload::law::at_most_one_is_best;
 
@@ -14,4 +14,9 @@ pub fn operates_in_one_way()
 /// What an operand becomes where a type is asked of it is one thing.
 pub fn converts_in_one_way()
     ensures { ConvertsInOneWay }
+{}
+
+/// What is known once something is found of a node is one thing.
+pub fn keeps_in_one_way()
+    ensures { KeepsInOneWay }
 {}
