@@ -1,7 +1,7 @@
 -- Rule: what a name with a template list is. (WGSL, "Vector Types", "Atomic Types", "Array Types", "Memory View Types", "Bit Reinterpretation
--- Built-in Functions".) The rule of templates fails at its first token where it takes no such list, and at an argument that is a type which
--- may not stand there because a buffer decides its size; the rule of sizes fails at a count.
-use Rattle.std.specs.Prelude.{ℕ, ℤ, pos, negsuc, Bool, true, false, not, ◌&&◌, List, [], ◌∷◌, Option, None, Some, is_some, option_map, codes, length, ◌-◌, slice_get, nat_lt, nat_le, Result, Ok, Err, if◌then◌else◌}
+-- Built-in Functions".) The rule of templates fails at its first token where it takes no such list; the rule of sizes fails at a count. What may
+-- stand in no list is told before, at the argument.
+use Rattle.std.specs.Prelude.{ℕ, ℤ, pos, negsuc, Bool, true, false, ◌&&◌, List, [], ◌∷◌, Option, None, Some, is_some, option_map, codes, length, ◌-◌, slice_get, nat_lt, nat_le, Result, Ok, Err, if◌then◌else◌}
 use Rattle.std.specs.Option.{option_flatten}
 use Rattle.std.specs.Str.{bytes_eq}
 use Rattle.shade_base.specs.declared.place.Place.{Place}
@@ -73,13 +73,13 @@ is_runtime_sized t (type.RuntimeArray element) = true
 is_runtime_sized t (type.Struct number) = is_runtime_array_id t (last_member (members_at t.structs number))
 is_runtime_sized t _ = false
 
-abbrev pub sized_type : Table → Option ShadeType → Operand → Place → Result ShadeType TypingFault
-sized_type t None argument place = Err (fault.Rule place rule.Template)
-sized_type t (Some ty) argument place = if is_runtime_sized t ty then Err (fault.Rule argument.place rule.Template) else Ok ty
+abbrev pub some_type : Option ShadeType → Place → Result ShadeType TypingFault
+some_type None place = Err (fault.Rule place rule.Template)
+some_type (Some ty) place = Ok ty
 
--- the only argument, which is a type; one whose size a buffer decides is told at it
+-- the only argument, which is a type
 abbrev pub only_type : Known → List Operand → Place → Result ShadeType TypingFault
-only_type k (a ∷ []) place = sized_type k.types (written_type k a.node) a place
+only_type k (a ∷ []) place = some_type (written_type k a.node) place
 only_type k _ place = Err (fault.Rule place rule.Template)
 
 abbrev pub type_and : Result ShadeType TypingFault → (ShadeType → Answer) → Answer
@@ -117,24 +117,17 @@ abbrev pub and_then : Result TypeId TypingFault → (TypeId → Answer) → Answ
 and_then (Ok id) answer = answer id
 and_then (Err e) answer = Err e
 
--- by whether a type may not stand there since a buffer decides its size, which is told at it, and whether it is a pointer, which is told at
--- the whole
-abbrev pub held_by : Bool → Bool → TypeId → Operand → Place → Result TypeId TypingFault
-held_by true pointer id held place = Err (fault.Rule held.place rule.Template)
-held_by false true id held place = Err (fault.Rule place rule.Template)
-held_by false false id held place = Ok id
+abbrev pub held_type : Option ShadeType → TypeId → Place → Result TypeId TypingFault
+held_type None id place = Err (fault.Rule place rule.Template)
+held_type (Some ty) id place = if is_pointer ty then Err (fault.Rule place rule.Template) else Ok id
 
-abbrev pub held_type : Bool → Table → Option ShadeType → TypeId → Operand → Place → Result TypeId TypingFault
-held_type free t None id held place = Err (fault.Rule place rule.Template)
-held_type free t (Some ty) id held place = held_by (not free && is_runtime_sized t ty) (is_pointer ty) id held place
+abbrev pub held_id : Table → Option TypeId → Place → Result TypeId TypingFault
+held_id t None place = Err (fault.Rule place rule.Template)
+held_id t (Some id) place = held_type (slice_get t.types id.0) id place
 
-abbrev pub held_id : Bool → Table → Option TypeId → Operand → Place → Result TypeId TypingFault
-held_id free t None held place = Err (fault.Rule place rule.Template)
-held_id free t (Some id) held place = held_type free t (slice_get t.types id.0) id held place
-
--- the type that an argument is, which must be plain data; `free` where a buffer may decide its size
-abbrev pub held : Bool → Known → Operand → Place → Result TypeId TypingFault
-held free k argument place = held_id free k.types (id_named (what_in k.facts argument.node)) argument place
+-- the type that an argument is, which must be no pointer
+abbrev pub held : Known → Operand → Place → Result TypeId TypingFault
+held k argument place = held_id k.types (id_named (what_in k.facts argument.node)) place
 
 -- ---- arrays
 
@@ -153,23 +146,14 @@ abbrev pub sized_by : Option ℕ → TypeId → Place → Answer
 sized_by None element place = breaks place rule.Size
 sized_by (Some n) element place = Ok (found.Type (type.Array element n) false)
 
-abbrev pub is_unsized : Table → Option ShadeType → Bool
-is_unsized t None = false
-is_unsized t (Some ty) = is_runtime_sized t ty
-
 -- the count is constant, or told as none; only then the array is asked what it holds, and whether the count is a number from 1 to 4,294,967,295
 abbrev pub counted_by : Option Value → Known → Operand → Operand → Place → Answer
 counted_by None k e n place = Err (fault.Constant (const_fault.NotConstant n.place))
-counted_by (Some v) k e n place = and_then (held false k e place) (λ id. sized_by (count_by (type_of_node k n.node) v) id n.place)
-
--- what is told at the element or at the count comes before what is told at the array
-abbrev pub array_of : Known → Operand → Operand → Place → Answer
-array_of k e n place =
-    if is_unsized k.types (written_type k e.node) then breaks e.place rule.Template else counted_by (value_of_node k.facts n.node) k e n place
+counted_by (Some v) k e n place = and_then (held k e place) (λ id. sized_by (count_by (type_of_node k n.node) v) id n.place)
 
 abbrev pub array_answer : Known → List Operand → Place → Answer
-array_answer k (e ∷ []) place = and_then (held false k e place) (λ id. Ok (found.Type (type.RuntimeArray id) false))
-array_answer k (e ∷ n ∷ []) place = array_of k e n place
+array_answer k (e ∷ []) place = and_then (held k e place) (λ id. Ok (found.Type (type.RuntimeArray id) false))
+array_answer k (e ∷ n ∷ []) place = counted_by (value_of_node k.facts n.node) k e n place
 array_answer k _ place = breaks place rule.Template
 
 -- ---- pointers
@@ -198,10 +182,6 @@ is_bad space.Storage word.Read = false
 is_bad space.Storage word.ReadWrite = false
 is_bad s w = true
 
-abbrev pub is_storage : Space → Bool
-is_storage space.Storage = true
-is_storage s = false
-
 abbrev pub access_by : Space → Option AccessWord → Access
 access_by s None = own_access s
 access_by s (Some w) = granted s w
@@ -210,10 +190,10 @@ abbrev pub is_bad_by : Space → Option AccessWord → Bool
 is_bad_by s None = false
 is_bad_by s (Some w) = is_bad s w
 
--- a pointer to a type; only storage has memory whose size a buffer decides
+-- a pointer to a type
 abbrev pub pointer_to : Option Space → Option AccessWord → Known → Operand → Place → Answer
 pointer_to None w k pointee place = breaks place rule.Template
-pointer_to (Some s) w k pointee place = and_then (held (is_storage s) k pointee place) (λ id. Ok (found.Type (type.Pointer s id (access_by s w)) (is_bad_by s w)))
+pointer_to (Some s) w k pointee place = and_then (held k pointee place) (λ id. Ok (found.Type (type.Pointer s id (access_by s w)) (is_bad_by s w)))
 
 abbrev pub accessed_to : Option AccessWord → Option Space → Known → Operand → Place → Answer
 accessed_to None s k pointee place = breaks place rule.Template
@@ -226,6 +206,11 @@ pointer_answer k (s ∷ p ∷ a ∷ []) place =
 pointer_answer k _ place = breaks place rule.Template
 
 -- ---- the name
+
+-- what a name makes with a template list, by its meaning and its text
+abbrev pub generator_of : Option Meaning → Option (List ℕ) → Option Generator
+generator_of (Some meaning.Predeclared) (Some text) = named_in generator_words text
+generator_of _ _ = None
 
 abbrev pub generated : Generator → Known → List Operand → Place → Answer
 generated (generator.Vector n) k arguments place = type_and (only_type k arguments place) (λ ty. told_type (vector_of n ty) place)

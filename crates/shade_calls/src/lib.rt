@@ -7,4 +7,4 @@ mod templates;
 
 pub use calls::row_of;
 pub use names::{declared, name, out_of_profile};
-pub use templates::{is_runtime_array, is_runtime_sized, template, written_type};
+pub use templates::{generator_of, is_runtime_array, is_runtime_sized, template, written_type};

@@ -1,7 +1,7 @@
 //! Names with a template list.
 
-ghost use Rattle.std.specs.Prelude.{◌≡◌, ◌<◌, IfOk, IfSome, Ok, codes, false, length};
-ghost use Rattle.std.specs.Option.{option_copied};
+ghost use Rattle.std.specs.Prelude.{◌≡◌, ◌<◌, IfOk, IfSome, Ok, codes, false, length, slice_get};
+ghost use Rattle.std.specs.Option.{option_copied, option_flatten};
 ghost use Rattle.std.specs.Str.{bytes_eq};
 ghost use Rattle.shade_values.specs.declared.types.ShadeType.TheVariants.{Struct};
 ghost use Rattle.shade_values.specs.Sound.{IsOf};
@@ -11,7 +11,7 @@ ghost use Rattle.shade_known.specs.Keeps.{IsFoundOf};
 ghost use Rattle.shade_known.specs.Lookups.{type_of_node, value_of_node, what_in};
 ghost use Rattle.shade_ast.specs.Lexemes.{named_in};
 ghost use Rattle.shade_calls.specs.Names.{generator_words};
-ghost use Rattle.shade_calls.specs.Templates.{access_by, access_named, array_answer, array_of, bitcast_answer, by_generator, count_by, count_in, counted_by, generated, granted, held, held_by, id_named, is_bad, is_bad_by, is_pointer, is_runtime_array, is_runtime_sized, is_storage, is_unsized, is_written, last_member, only_type, own_access, pointer_answer, pointer_to, sized_by, space_named, template_answer, written_type};
+ghost use Rattle.shade_calls.specs.Templates.{access_by, access_named, array_answer, bitcast_answer, by_generator, count_by, count_in, counted_by, generated, generator_of, granted, held, id_named, is_bad, is_bad_by, is_pointer, is_runtime_array, is_runtime_sized, is_written, last_member, only_type, own_access, pointer_answer, pointer_to, sized_by, space_named, template_answer, written_type};
 
 use crate::names::{generator_word, is_word, meaning_of, out_of_profile};
 use shade_ast::Names;
@@ -94,20 +94,17 @@ pub fn is_runtime_sized(types: &TypeTable, ty: ShadeType) -> bool
     }
 }
 
-/// The only argument, which is a type; one whose size a buffer decides is told at it.
+/// The only argument, which is a type.
 fn only_type(known: &Known, arguments: &[Operand], place: Place) -> Result<ShadeType, TypingFault>
     ensures { result ≡ only_type known.now arguments.now place }
 {
     let [argument] = arguments else {
         return Err(breaks(place, TypeRule::Template));
     };
-    let Some(ty) = written_type(known, argument.node) else {
-        return Err(breaks(place, TypeRule::Template));
-    };
-    if is_runtime_sized(&known.types, ty) {
-        return Err(breaks(argument.place, TypeRule::Template));
+    match written_type(known, argument.node) {
+        Some(ty) => Ok(ty),
+        None => Err(breaks(place, TypeRule::Template)),
     }
-    Ok(ty)
 }
 
 fn is_written(scalar: Scalar) -> bool
@@ -183,28 +180,9 @@ fn is_pointer(ty: ShadeType) -> bool
     }
 }
 
-fn held_by(
-    is_unsized: bool,
-    pointer: bool,
-    id: TypeId,
-    held: Operand,
-    place: Place,
-) -> Result<TypeId, TypingFault>
-    ensures ty { result ≡ held_by is_unsized pointer id held place }
-    ensures same { IfOk result (λ x. x ≡ id) }
-{
-    if is_unsized {
-        return Err(breaks(held.place, TypeRule::Template));
-    }
-    if pointer {
-        return Err(breaks(place, TypeRule::Template));
-    }
-    Ok(id)
-}
-
-/// The type that an argument is, which must be plain data; `free` where a buffer may decide its size.
-fn held(free: bool, known: &Known, argument: Operand, place: Place) -> Result<TypeId, TypingFault>
-    ensures ty { result ≡ held free known.now argument place }
+/// The type that an argument is, which must be no pointer.
+fn held(known: &Known, argument: Operand, place: Place) -> Result<TypeId, TypingFault>
+    ensures ty { result ≡ held known.now argument place }
     ensures of { IfOk result (λ id. id.0 < length known.now.types.types) }
 {
     let Some(id) = id_named(known, argument.node) else {
@@ -213,8 +191,10 @@ fn held(free: bool, known: &Known, argument: Operand, place: Place) -> Result<Ty
     let Some(ty) = type_by_id(&known.types, id) else {
         return Err(breaks(place, TypeRule::Template));
     };
-    let is_unsized = !free && is_runtime_sized(&known.types, ty);
-    held_by(is_unsized, is_pointer(ty), id, argument, place)
+    if is_pointer(ty) {
+        return Err(breaks(place, TypeRule::Template));
+    }
+    Ok(id)
 }
 
 fn count_in(number: i64) -> Option<u32>
@@ -258,16 +238,6 @@ fn sized_by(
     }
 }
 
-fn is_unsized(types: &TypeTable, ty: Option<ShadeType>) -> bool
-    requires { IfSome ty (IsOf types.now) }
-    ensures { result ≡ is_unsized types.now ty }
-{
-    match ty {
-        Some(ty) => is_runtime_sized(types, ty),
-        None => false,
-    }
-}
-
 fn counted_by(
     value: Option<&Value>,
     known: &Known,
@@ -281,7 +251,7 @@ fn counted_by(
     let Some(value) = value else {
         return Err(TypingFault::Constant(ConstFault::NotConstant(count.place)));
     };
-    match held(false, known, element, place) {
+    match held(known, element, place) {
         Ok(id) => {
             let number = count_by(type_at(known, count.node), value);
             sized_by(number, &known.types, id, count.place)
@@ -290,37 +260,19 @@ fn counted_by(
     }
 }
 
-fn array_of(
-    known: &Known,
-    element: Operand,
-    count: Operand,
-    place: Place,
-) -> Result<Found, TypingFault>
-    ensures answer { result ≡ array_of known.now element count place }
-    ensures of { IfOk result (λ f. IsFoundOf known.now.types f) }
-{
-    if is_unsized(&known.types, written_type(known, element.node)) {
-        return Err(breaks(element.place, TypeRule::Template));
-    }
-    counted_by(
-        value_at(&known.facts, count.node),
-        known,
-        element,
-        count,
-        place,
-    )
-}
-
 fn array(known: &Known, arguments: &[Operand], place: Place) -> Result<Found, TypingFault>
     ensures answer { result ≡ array_answer known.now arguments.now place }
     ensures of { IfOk result (λ f. IsFoundOf known.now.types f) }
 {
     match arguments {
-        [element] => match held(false, known, *element, place) {
+        [element] => match held(known, *element, place) {
             Ok(id) => told(ShadeType::RuntimeArray(id)),
             Err(fault) => Err(fault),
         },
-        [element, count] => array_of(known, *element, *count, place),
+        [element, count] => {
+            let value = value_at(&known.facts, count.node);
+            counted_by(value, known, *element, *count, place)
+        }
         _ => Err(breaks(place, TypeRule::Template)),
     }
 }
@@ -389,15 +341,6 @@ fn is_bad_by(space: Space, word: Option<AccessWord>) -> bool
     }
 }
 
-fn is_storage(space: Space) -> bool
-    ensures { result ≡ is_storage space }
-{
-    match space {
-        Space::Storage => true,
-        _ => false,
-    }
-}
-
 fn pointer_to(
     space: Option<Space>,
     word: Option<AccessWord>,
@@ -411,7 +354,7 @@ fn pointer_to(
     let Some(space) = space else {
         return Err(breaks(place, TypeRule::Template));
     };
-    match held(is_storage(space), known, pointee, place) {
+    match held(known, pointee, place) {
         Ok(id) => Ok(Found::Type {
             ty: ShadeType::Pointer(space, id, access_by(space, word)),
             bad_access: is_bad_by(space, word),
@@ -489,10 +432,19 @@ fn by_word(
     Err(out_of_profile(alloc, text, place)?)
 }
 
+/// Gives what the name with a number, which is used at a node, makes with a template list. Takes no memory.
+pub fn generator_of(names: &Names, uses: &Uses, node: u32, number: u32) -> Option<Generator>
+    ensures { result ≡ generator_of (option_flatten (slice_get uses.now node)) (slice_get names.now number) }
+{
+    match meaning_of(uses, node) {
+        Some(Meaning::Predeclared) => generator_word(text_of(names, number)?),
+        _ => None,
+    }
+}
+
 /// Gives what a name with a template list is that is used at a node: a type, or `bitcast` to a type.
 ///
-/// The rule of templates fails at the place, its first token, where it takes no such arguments; at the type that is held where a buffer
-/// decides its size and it may not stand there. `NotConstant` at a count that is no constant; the rule of sizes fails at one that is no
+/// The rule of templates fails at the place, its first token, where it takes no such arguments. `NotConstant` at a count that is no constant; the rule of sizes fails at one that is no
 /// number from 1 to 4,294,967,295. A word that this program does not take is told at the place. Takes memory for the word that is told.
 pub fn template(
     alloc: Global,

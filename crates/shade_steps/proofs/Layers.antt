@@ -1,5 +1,5 @@
 -- The steps of each kind of expression, by those of its parts; and what a list holds once they are added to it in turn.
-use Rattle.std.proofs.Common.{◌≡◌, refl, sym, ap, ◌∙◌, ℕ, Bool, List, [], ◌∷◌, ◌++◌, map, Option, None, Result, Ok, Err, append_assoc}
+use Rattle.std.proofs.Common.{◌≡◌, refl, sym, ap, ◌∙◌, ℕ, Bool, List, [], ◌∷◌, ◌++◌, map, Option, Result, Ok, Err, append_assoc}
 use Rattle.std.specs.Prelude.{OnOk}
 use Rattle.std.specs.List.{flat_map}
 use Rattle.shade_base.specs.declared.place.Place.{Place}
@@ -10,9 +10,10 @@ use Rattle.shade_ast.specs.declared.expr.Expr.{Expr, fold_out-Expr}
 use Rattle.shade_ast.specs.declared.expr.ExprKind.{ExprKind, ExprKind-F, out-ExprKind, map-ExprKind, fold-ExprKind, fold_out-ExprKind}
 use Rattle.shade_ast.specs.declared.expr.ExprKind.TheVariants as kind
 use Rattle.shade_known.specs.declared.known.Operand.{Operand}
+use Rattle.shade_steps.specs.declared.step.Slot.TheVariants as slot
 use Rattle.shade_steps.specs.declared.step.Step.{Step}
 use Rattle.shade_steps.specs.declared.step.Task.TheVariants as task
-use Rattle.shade_steps.specs.Steps.{Part, KindSteps, kind_steps, expr_part, part_of, own_of, steps_of, steps_of_value, value_steps, listed_steps, decided, right_of, operand_asked, step_of}
+use Rattle.shade_steps.specs.Steps.{Part, KindSteps, kind_steps, expr_part, part_of, own_of, steps_of, steps_of_value, steps_of_operand, steps_of_listed, value_steps, listed_steps, decided, right_of, operand_asked, step_of}
 
 abbrev pub kind_part : ExprKind → KindSteps
 kind_part = fold-ExprKind KindSteps Part kind_steps expr_part
@@ -82,9 +83,9 @@ module _ (e : Expr) (own : Operand) (under : Option ℕ) (own_part : own ≡ (pa
       ∙ ap (λ x. o ++ x) (sym (along _ _ is (kind.outs-Prefix operator operand)))
 
   pub of-Paren : (inner : Expr) {mine : Operand} (o : List Step) {o1 o2 : List Step} → e.kind ≡ kind.Paren inner → mine ≡ (part_of inner).own
-      → o1 ≡ o ++ steps_of under inner → o2 ≡ o1 ++ step_of own under (task.Paren mine) ∷ [] → o2 ≡ o ++ steps_of under e
+      → o1 ≡ o ++ steps_of_operand under inner → o2 ≡ o1 ++ step_of own under (task.Paren mine) ∷ [] → o2 ≡ o ++ steps_of under e
   of-Paren inner o is is_mine p q =
-      two _ _ o p q ∙ ap (λ m. o ++ (steps_of under inner ++ step_of own under (task.Paren m) ∷ [])) is_mine
+      two _ _ o p q ∙ ap (λ m. o ++ (steps_of_operand under inner ++ step_of own under (task.Paren m) ∷ [])) is_mine
       ∙ ap (λ x. o ++ x) (sym (along _ _ is (kind.outs-Paren inner)))
 
   pub of-Member : (whole : Expr) (dot : Place) (member : Named) {mine : Operand} (o : List Step) {o1 o2 : List Step} → e.kind ≡ kind.Member whole dot member → mine ≡ (part_of whole).own
@@ -95,11 +96,11 @@ module _ (e : Expr) (own : Operand) (under : Option ℕ) (own_part : own ≡ (pa
 
   pub of-Index : (whole : Expr) (bracket : Place) (index : Expr) {w i : Operand} (o : List Step) {o1 o2 o3 : List Step} → e.kind ≡ kind.Index whole bracket index
       → w ≡ (part_of whole).own → i ≡ (part_of index).own
-      → o1 ≡ o ++ steps_of under whole → o2 ≡ o1 ++ steps_of_value under index → o3 ≡ o2 ++ step_of own under (task.Index w bracket i) ∷ [] → o3 ≡ o ++ steps_of under e
+      → o1 ≡ o ++ steps_of_operand under whole → o2 ≡ o1 ++ steps_of_value under index → o3 ≡ o2 ++ step_of own under (task.Index w bracket i) ∷ [] → o3 ≡ o ++ steps_of under e
   of-Index whole bracket index {w = w} {i = i} o is is_w is_i p q r =
       three _ _ _ o p q r
-      ∙ ap (λ m. o ++ (steps_of under whole ++ steps_of_value under index ++ step_of own under (task.Index m bracket i) ∷ [])) is_w
-      ∙ ap (λ m. o ++ (steps_of under whole ++ steps_of_value under index ++ step_of own under (task.Index (part_of whole).own bracket m) ∷ [])) is_i
+      ∙ ap (λ m. o ++ (steps_of_operand under whole ++ steps_of_value under index ++ step_of own under (task.Index m bracket i) ∷ [])) is_w
+      ∙ ap (λ m. o ++ (steps_of_operand under whole ++ steps_of_value under index ++ step_of own under (task.Index (part_of whole).own bracket m) ∷ [])) is_i
       ∙ ap (λ x. o ++ x) (sym (along _ _ is (kind.outs-Index whole bracket index)))
 
   pub of-Call : (callee : Expr) (arguments : List Expr) (trailing : Bool) {a : Operand} {l : List Operand} (o : List Step) {o1 o2 o3 : List Step} → e.kind ≡ kind.Call callee arguments trailing
@@ -114,9 +115,8 @@ module _ (e : Expr) (own : Operand) (under : Option ℕ) (own_part : own ≡ (pa
 
   pub of-Template : (name : ℕ) (arguments : List Expr) (trailing : Bool) {l : List Operand} (o : List Step) {o1 o2 : List Step} → e.kind ≡ kind.Template name arguments trailing
       → l ≡ map (λ x. (part_of x).own) arguments
-      → o1 ≡ o ++ flat_map (steps_of None) arguments → o2 ≡ o1 ++ step_of own under (task.Template name l) ∷ [] → o2 ≡ o ++ steps_of under e
+      → o1 ≡ o ++ steps_of_listed own.node name slot.First arguments → o2 ≡ o1 ++ step_of own under (task.Template name l) ∷ [] → o2 ≡ o ++ steps_of under e
   of-Template name arguments trailing {l = l} o is is_l p q =
       two _ _ o p q
-      ∙ ap (λ m. o ++ (m ++ step_of own under (task.Template name l) ∷ [])) (flat_map_map (λ (x : Part). x.steps None) part_of arguments)
-      ∙ ap (λ m. o ++ (listed_steps (map part_of arguments) ++ step_of own under (task.Template name m) ∷ [])) (is_l ∙ map_map (λ (x : Part). x.own) part_of arguments)
+      ∙ ap (λ m. o ++ (listed_steps own.node name slot.First (map part_of arguments) ++ step_of own under (task.Template name m) ∷ [])) (is_l ∙ map_map (λ (x : Part). x.own) part_of arguments)
       ∙ ap (λ x. o ++ x) (sym (along _ _ is (kind.outs-Template name arguments trailing)))

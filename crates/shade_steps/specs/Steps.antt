@@ -11,6 +11,8 @@ use Rattle.shade_ast.specs.declared.expr.Expr.{Expr, Expr-F, fold-Expr}
 use Rattle.shade_ast.specs.declared.expr.ExprKind.{ExprKind-F}
 use Rattle.shade_ast.specs.declared.expr.ExprKind.TheOpen as kind
 use Rattle.shade_known.specs.declared.known.Operand.{Operand}
+use Rattle.shade_steps.specs.declared.step.Slot.{Slot}
+use Rattle.shade_steps.specs.declared.step.Slot.TheVariants as slot
 use Rattle.shade_steps.specs.declared.step.Step.{Step}
 use Rattle.shade_steps.specs.declared.step.TypeRole.{TypeRole}
 use Rattle.shade_steps.specs.declared.step.Task.{Task}
@@ -27,6 +29,10 @@ step_of own under asked = record { node = own.node; place = own.place; under = u
 -- the steps of a part, and that it is a value
 abbrev pub value_steps : Option ℕ → Part → List Step
 value_steps under p = p.steps under ++ step_of p.own under task.IsValue ∷ []
+
+-- the steps of a part, and that it is a value or names memory
+abbrev pub operand_steps : Option ℕ → Part → List Step
+operand_steps under p = p.steps under ++ step_of p.own under task.IsOperand ∷ []
 
 -- ---- `&&` and `||`
 
@@ -50,9 +56,9 @@ right_of under operator whole = if is_lazy operator then Some whole else under
 
 -- ---- operators before an expression
 
--- `&` takes what names memory, and each other operator a value
+-- `&` takes what names memory, also memory that cannot be loaded, and each other operator a value
 abbrev pub operand_asked : Prefix → Option ℕ → Operand → List Step
-operand_asked prefix_of.AddressOf under operand = []
+operand_asked prefix_of.AddressOf under operand = step_of operand under task.IsOperand ∷ []
 operand_asked _ under operand = step_of operand under task.IsValue ∷ []
 
 -- ---- each kind of expression
@@ -60,9 +66,19 @@ operand_asked _ under operand = step_of operand under task.IsValue ∷ []
 abbrev pub owns : List Part → List Operand
 owns parts = map (λ p. p.own) parts
 
--- the arguments of a template list are asked for wherever they stand
-abbrev pub listed_steps : List Part → List Step
-listed_steps parts = flat_map (λ p. p.steps None) parts
+-- where the argument behind one stands
+abbrev pub behind : Slot → Operand → Slot
+behind slot.First before = slot.Second before
+behind _ before = slot.Later
+
+-- an argument of the template list of the name with this node and this number, and that it may stand there; it is asked for wherever it stands
+abbrev pub argument_steps : ℕ → ℕ → Slot → Part → List Step
+argument_steps list name at p = p.steps None ++ step_of p.own None (task.Argument list name at) ∷ []
+
+-- the arguments from one on
+abbrev pub listed_steps : ℕ → ℕ → Slot → List Part → List Step
+listed_steps list name at [] = []
+listed_steps list name at (p ∷ others) = argument_steps list name at p ++ listed_steps list name (behind at p.own) others
 
 abbrev pub KindSteps : Type 0
 KindSteps = Operand → Option ℕ → List Step
@@ -75,16 +91,16 @@ kind_steps (kind.Prefix operator operand) own under =
     operand.steps under ++ operand_asked operator under operand.own ++ step_of own under (task.Prefix operator operand.own) ∷ []
 kind_steps (kind.Member whole dot member) own under = whole.steps under ++ step_of own under (task.Member whole.own dot member) ∷ []
 kind_steps (kind.Index whole bracket index) own under =
-    whole.steps under ++ value_steps under index ++ step_of own under (task.Index whole.own bracket index.own) ∷ []
+    operand_steps under whole ++ value_steps under index ++ step_of own under (task.Index whole.own bracket index.own) ∷ []
 kind_steps (kind.Call callee arguments trailing) own under =
     callee.steps under ++ flat_map (value_steps under) arguments ++ step_of own under (task.Call callee.own (owns arguments)) ∷ []
 kind_steps (kind.Template name arguments trailing) own under =
-    listed_steps arguments ++ step_of own under (task.Template name (owns arguments)) ∷ []
+    listed_steps own.node name slot.First arguments ++ step_of own under (task.Template name (owns arguments)) ∷ []
 kind_steps (kind.Name name) own under = step_of own under (task.Name name) ∷ []
 kind_steps (kind.Number value suffix) own under = step_of own under (task.Number value suffix) ∷ []
 kind_steps kind.True own under = step_of own under (task.Truth true) ∷ []
 kind_steps kind.False own under = step_of own under (task.Truth false) ∷ []
-kind_steps (kind.Paren inner) own under = inner.steps under ++ step_of own under (task.Paren inner.own) ∷ []
+kind_steps (kind.Paren inner) own under = operand_steps under inner ++ step_of own under (task.Paren inner.own) ∷ []
 
 abbrev pub own_of : ℕ → Place → Operand
 own_of node place = record { node = node; place = place }
@@ -102,6 +118,14 @@ steps_of under e = (part_of e).steps under
 -- and that it is a value
 abbrev pub steps_of_value : Option ℕ → Expr → List Step
 steps_of_value under e = value_steps under (part_of e)
+
+-- and that it is a value or names memory
+abbrev pub steps_of_operand : Option ℕ → Expr → List Step
+steps_of_operand under e = operand_steps under (part_of e)
+
+-- of the arguments of a template list
+abbrev pub steps_of_listed : ℕ → ℕ → Slot → List Expr → List Step
+steps_of_listed list name at arguments = listed_steps list name at (map part_of arguments)
 
 -- and that it is a type, for what it is written; a type stands in no right side
 abbrev pub steps_of_type : TypeRole → Expr → List Step

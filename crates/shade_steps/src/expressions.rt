@@ -3,9 +3,10 @@
 ghost use Rattle.std.specs.Prelude.{◌≡◌, ◌++◌, ◌∷◌, [], None, OnOk, IfOk, map};
 ghost use Rattle.std.specs.List.{flat_map};
 ghost use Rattle.shade_ast.specs.declared.expr.Expr.{Expr};
-ghost use Rattle.shade_steps.specs.Steps.{step_of, steps_of, steps_of_value, steps_of_type, decided, right_of, is_lazy, operand_asked, part_of};
+ghost use Rattle.shade_steps.specs.declared.step.Slot.TheVariants.{First};
+ghost use Rattle.shade_steps.specs.Steps.{behind, step_of, steps_of, steps_of_value, steps_of_operand, steps_of_listed, steps_of_type, decided, right_of, is_lazy, operand_asked, part_of};
 
-use crate::step::{Step, Task, TypeRole};
+use crate::step::{Slot, Step, Task, TypeRole};
 use shade_ast::{Expr, ExprKind, Infix, Prefix};
 use shade_known::Operand;
 use sqlite_items::Items;
@@ -82,10 +83,20 @@ fn add_asked(
     ensures { OnOk result (out.new ≡ out.old ++ operand_asked operator under operand) }
 {
     match operator {
-        Prefix::AddressOf => Ok(()),
+        Prefix::AddressOf => add(operand, under, Task::IsOperand, out),
         Prefix::Negate | Prefix::Not | Prefix::Complement | Prefix::Deref => {
             add(operand, under, Task::IsValue, out)
         }
+    }
+}
+
+/// Where the argument behind one stands.
+fn behind(slot: Slot, before: Operand) -> Slot
+    ensures { result ≡ behind slot before }
+{
+    match slot {
+        Slot::First => Slot::Second(before),
+        Slot::Second(_) | Slot::Later => Slot::Later,
     }
 }
 
@@ -158,7 +169,7 @@ pub fn add_steps(
             bracket,
             index,
         } => {
-            add_steps(alloc, whole.get(), under, out)?;
+            add_operand(alloc, whole.get(), under, out)?;
             add_value(alloc, index.get(), under, out)?;
             let task = Task::Index {
                 whole: own_of(whole.get()),
@@ -185,7 +196,7 @@ pub fn add_steps(
             arguments,
             trailing: _,
         } => {
-            add_listed(alloc, arguments, out)?;
+            add_listed(alloc, arguments, own.node, *name, out)?;
             let task = Task::Template {
                 name: *name,
                 arguments: owns(alloc, arguments)?,
@@ -203,7 +214,7 @@ pub fn add_steps(
         ExprKind::True => add(own, under, Task::Truth(true), out),
         ExprKind::False => add(own, under, Task::Truth(false), out),
         ExprKind::Paren(inner) => {
-            add_steps(alloc, inner.get(), under, out)?;
+            add_operand(alloc, inner.get(), under, out)?;
             add(own, under, Task::Paren(own_of(inner.get())), out)
         }
     }
@@ -223,6 +234,20 @@ pub fn add_value(
     add(own_of(e), under, Task::IsValue, out)
 }
 
+/// Adds the steps of an expression, and that it is a value or names memory.
+#[cycle(steps)]
+fn add_operand(
+    alloc: Global,
+    e: &Expr,
+    under: Option<u32>,
+    out: &mut Items<Step>,
+) -> Result<(), AllocError>
+    ensures { OnOk result (out.new ≡ out.old ++ steps_of_operand under e.now) }
+{
+    add_steps(alloc, e, under, out)?;
+    add(own_of(e), under, Task::IsOperand, out)
+}
+
 /// Adds the steps of some expressions, and that each is a value.
 #[cycle(steps)]
 fn add_values(
@@ -239,17 +264,23 @@ fn add_values(
     Ok(())
 }
 
-/// Adds the steps of the arguments of a template list.
+/// Adds the steps of the arguments of the template list of a name, and that each may stand there.
 #[cycle(steps)]
 fn add_listed(
     alloc: Global,
     arguments: &Items<Expr>,
+    list: u32,
+    name: u32,
     out: &mut Items<Step>,
 ) -> Result<(), AllocError>
-    ensures { OnOk result (out.new ≡ out.old ++ flat_map (steps_of None) arguments.now) }
+    ensures { OnOk result (out.new ≡ out.old ++ steps_of_listed list name First arguments.now) }
 {
+    let mut slot = Slot::First;
     for e in arguments.as_slice() {
         add_steps(alloc, e, None, out)?;
+        let own = own_of(e);
+        add(own, None, Task::Argument { list, name, slot }, out)?;
+        slot = behind(slot, own);
     }
     Ok(())
 }

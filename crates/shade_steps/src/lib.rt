@@ -12,5 +12,6 @@ pub use attributes::add_attrs;
 pub use declarations::{add_decl, add_directive};
 pub use expressions::{add_steps, add_type, add_value};
 pub use step::{
-    AttrMark, AttrParts, FnParts, Level, MemberParts, Position, Step, Task, TypeRole, VarParts,
+    AttrMark, AttrParts, FnParts, Level, MemberParts, Position, Slot, Step, Task, TypeRole,
+    VarParts,
 };

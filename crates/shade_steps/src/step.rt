@@ -11,6 +11,8 @@ use sqlite_items::Items;
 pub enum Task {
     /// It is used as a value.
     IsValue,
+    /// It is used as a value or as memory.
+    IsOperand,
     /// It is used as a type, for this.
     IsType(TypeRole),
     /// It is a `&&` or `||` that its left side decides, or leaves to the right side.
@@ -31,6 +33,12 @@ pub enum Task {
     Template {
         name: u32,
         arguments: Items<Operand>,
+    },
+    /// It is an argument of the template list of a name, by the node and the number of the name.
+    Argument {
+        list: u32,
+        name: u32,
+        slot: Slot,
     },
     /// It is an expression in parentheses.
     Paren(Operand),
@@ -163,6 +171,15 @@ pub enum TypeRole {
     Parameter,
     /// It is the type of anything else.
     Other,
+}
+
+/// Where an argument stands in a template list.
+#[derive(Clone, Copy, Debug, PartialEq, Eq)]
+pub enum Slot {
+    First,
+    /// It is the second, behind this one.
+    Second(Operand),
+    Later,
 }
 
 /// An attribute, by its node and its name.

@@ -25,7 +25,7 @@ use Rattle.shade_typing.specs.Assignments.{checked, IsConverted}
 use Rattle.shade_calls.specs.Calls.{row_of}
 use Rattle.shade_calls.specs.Templates.{written_type}
 use Rattle.shade_tasks.specs.Compounds.{compound_builtin, AfterOperator, unless_fault, AfterTypes, IsCompound}
-use Rattle.shade_tasks.specs.Declared.{bound, IsBound, ByType, ByConstness, ByAccess, bad_place, IsConstant, IsReturned, result_of}
+use Rattle.shade_tasks.specs.Declared.{bound, IsBound, ByType, ByConstness, IsReturned, result_of}
 use Rattle.shade_tasks.specs.Rules.{IsCall, OperationOf, NamedOf, StatementOf, DeclaredOf, ProfileOf, RuleOf}
 use Rattle.shade_tasks.specs.Laws.{StepsFindOneThing}
 
@@ -55,6 +55,7 @@ module _ (one : OperatesInOneWay) (converts : ConvertsInOneWay) (uses : List (Op
   named_one : (node : ℕ) (place : Place) (t : Task) (r s : Answer) → NamedOf uses names k node place t r → NamedOf uses names k node place t s → r ≡ s
   named_one node place (task.Name name) r s p q = both p q
   named_one node place (task.Template name arguments) r s p q = both p q
+  named_one node place (task.Argument list name at) r s p q = both p q
   named_one node place t r s p q = absurd p
 
   assigned_one : (o : Operand) (to : Option ShadeType) (r s : Answer) → IsConverted k o to r → IsConverted k o to s → r ≡ s
@@ -106,10 +107,6 @@ module _ (one : OperatesInOneWay) (converts : ConvertsInOneWay) (uses : List (Op
   constness_one None ty o r s p q = both p q
   constness_one (Some v) ty o r s p q = typed_one ty o r s p q
 
-  access_one : (bad : Option Place) (ty : Option Operand) (o : Operand) (r s : Answer) → ByAccess bad k ty o r → ByAccess bad k ty o s → r ≡ s
-  access_one None ty o r s p q = constness_one (value_of_node k.facts o.node) ty o r s p q
-  access_one (Some place) ty o r s p q = both p q
-
   returned_one : (given : Option TypeId) (value : Option Operand) (place : Place) (r s : Answer) → IsReturned k given value place r → IsReturned k given value place s → r ≡ s
   returned_one None None place r s p q = both p q
   returned_one None (Some value) place r s p q = both p q
@@ -119,7 +116,7 @@ module _ (one : OperatesInOneWay) (converts : ConvertsInOneWay) (uses : List (Op
   declared_one : (node : ℕ) (place : Place) (t : Task) (r s : Answer) → DeclaredOf k node place t r → DeclaredOf k node place t s → r ≡ s
   declared_one node place (task.IsType wanted) r s p q = both p q
   declared_one node place (task.Alias ty) r s p q = both p q
-  declared_one node place (task.Constant ty value) r s p q = access_one (bad_place k ty) ty value r s p q
+  declared_one node place (task.Constant ty value) r s p q = constness_one (value_of_node k.facts value.node) ty value r s p q
   declared_one node place (task.Returns function value) r s p q = returned_one (result_of (what_in k.facts function)) value place r s p q
   declared_one node place t r s p q = absurd p
 
@@ -132,9 +129,11 @@ module _ (one : OperatesInOneWay) (converts : ConvertsInOneWay) (uses : List (Op
 
   rule_one : (node : ℕ) (place : Place) (idle : Bool) (t : Task) (r s : Answer) → RuleOf uses names k node place idle t r → RuleOf uses names k node place idle t s → r ≡ s
   rule_one node place idle task.IsValue r s p q = both p q
+  rule_one node place idle task.IsOperand r s p q = both p q
   rule_one node place idle (task.Decides operator left) r s p q = both p q
   rule_one node place idle (task.Number value suffix) r s p q = both p q
   rule_one node place idle (task.Truth b) r s p q = both p q
+  rule_one node place idle (task.Argument list name at) r s p q = both p q
   rule_one node place idle (task.Paren inner) r s p q = both p q
   rule_one node place idle (task.Name name) r s p q = both p q
   rule_one node place idle (task.Template name arguments) r s p q = both p q

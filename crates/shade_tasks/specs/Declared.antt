@@ -1,9 +1,8 @@
 -- Rule: types where one is asked, aliases, constants and `return`. (WGSL, "Types", "Array Types", "Type Aliases", "const Declarations", "Return
 -- Statement".)
-use Rattle.std.specs.Prelude.{◌≡◌, ℕ, Bool, true, false, Option, None, Some, slice_get, Result, Ok, Err, if◌then◌else◌}
+use Rattle.std.specs.Prelude.{◌≡◌, ℕ, Bool, true, false, ◌&&◌, Option, None, Some, slice_get, Result, Ok, Err, if◌then◌else◌}
 use Rattle.shade_base.specs.declared.place.Place.{Place}
 use Rattle.shade_values.specs.declared.types.ShadeType.{ShadeType}
-use Rattle.shade_values.specs.declared.types.Space.TheVariants as space
 use Rattle.shade_values.specs.declared.types.TypeId.{TypeId}
 use Rattle.shade_values.specs.declared.value.Value.{Value}
 use Rattle.shade_evaluate.specs.declared.fault.ConstFault.TheVariants as const_fault
@@ -23,16 +22,13 @@ use Rattle.shade_typing.specs.Values.{Answer, breaks, same_found}
 use Rattle.shade_typing.specs.Assignments.{IsConverted}
 use Rattle.shade_calls.specs.Names.{declared_by}
 use Rattle.shade_calls.specs.Templates.{is_runtime_array, is_runtime_sized, written_type}
+use Rattle.shade_tasks.specs.Arguments.{is_bad_type, is_storage}
 
 -- ---- types
 
-abbrev pub is_storage_word : Option What → Bool
-is_storage_word (Some (what.Space space.Storage)) = true
-is_storage_word _ = false
-
 abbrev pub in_storage : Known → Option Operand → Bool
 in_storage k None = false
-in_storage k (Some word) = is_storage_word (what_in k.facts word.node)
+in_storage k (Some word) = is_storage (what_in k.facts word.node)
 
 -- whether a type whose size a buffer decides may stand here: as the type of a storage variable, under another name, or as an array that is
 -- the last member of a struct
@@ -46,13 +42,21 @@ may_be_unsized k role.Other ty = false
 abbrev pub may_stand : Known → TypeRole → ShadeType → Bool
 may_stand k wanted ty = if is_runtime_sized k.types ty then may_be_unsized k wanted ty else true
 
-abbrev pub type_by : Known → TypeRole → Option ShadeType → Place → Answer
-type_by k wanted None place = breaks place rule.Template
-type_by k wanted (Some ty) place = if may_stand k wanted ty then Ok found.Nothing else breaks place rule.Template
+-- of a parameter the parameter is asked whether the access of its pointer is one of its space, and of anything else the type
+abbrev pub is_told : TypeRole → Bool
+is_told role.Parameter = false
+is_told _ = true
+
+abbrev pub access_by : TypeRole → Bool → Place → Answer
+access_by wanted bad place = if is_told wanted && bad then breaks place rule.Space else Ok found.Nothing
+
+abbrev pub type_by : Known → TypeRole → Option ShadeType → Bool → Place → Answer
+type_by k wanted None bad place = breaks place rule.Template
+type_by k wanted (Some ty) bad place = if may_stand k wanted ty then access_by wanted bad place else breaks place rule.Template
 
 -- a node where a type is asked
 abbrev pub as_type : Known → TypeRole → ℕ → Place → Answer
-as_type k wanted n place = type_by k wanted (written_type k n) place
+as_type k wanted n place = type_by k wanted (written_type k n) (is_bad_type (what_in k.facts n)) place
 
 -- ---- aliases
 
@@ -60,15 +64,6 @@ abbrev pub alias_found : Known → Operand → Answer
 alias_found k ty = Ok (declared_by k.types (what_in k.facts ty.node))
 
 -- ---- constants
-
-abbrev pub is_bad_type : Option What → Bool
-is_bad_type (Some (what.Type id bad)) = bad
-is_bad_type _ = false
-
--- the place of a pointer type whose access is none of its space
-abbrev pub bad_place : Known → Option Operand → Option Place
-bad_place k None = None
-bad_place k (Some ty) = if is_bad_type (what_in k.facts ty.node) then Some ty.place else None
 
 abbrev pub bound : ShadeType → Result (Option Value) TypingFault → Answer
 bound ty (Ok v) = Ok (found.Value ty None v)
@@ -88,13 +83,9 @@ abbrev pub ByConstness : Option Value → Known → Option Operand → Operand �
 ByConstness None k ty value r = r ≡ Err (fault.Constant (const_fault.NotConstant value.place))
 ByConstness (Some v) k ty value r = ByType k ty value r
 
-abbrev pub ByAccess : Option Place → Known → Option Operand → Operand → Answer → Type 0
-ByAccess (Some place) k ty value r = r ≡ breaks place rule.Space
-ByAccess None k ty value r = ByConstness (value_of_node k.facts value.node) k ty value r
-
--- what is told at the type comes first, then what is told at the value, and then what the declaration asks of both
+-- what is told at the value comes first, and then what the declaration asks of it and of the type
 abbrev pub IsConstant : Known → Option Operand → Operand → Answer → Type 0
-IsConstant k ty value = ByAccess (bad_place k ty) k ty value
+IsConstant k ty value = ByConstness (value_of_node k.facts value.node) k ty value
 
 -- ---- `return`
 

@@ -1,4 +1,5 @@
--- Rules: Compounds, Declared, Laws, Profile, Rules, Takes.
+-- Rules: Arguments, Compounds, Declared, Laws, Profile, Rules, Takes.
+pub mod Arguments
 pub mod Compounds
 pub mod Declared
 pub mod Laws

@@ -12,13 +12,14 @@ use Rattle.shade_known.specs.Operates.{Operates}
 use Rattle.shade_steps.specs.declared.step.Step.{Step}
 use Rattle.shade_steps.specs.declared.step.Task.{Task}
 use Rattle.shade_steps.specs.declared.step.Task.TheVariants as task
-use Rattle.shade_typing.specs.Values.{Answer, number_found, truth_found, same_found, as_value, as_condition, as_assertion, decided_found}
+use Rattle.shade_typing.specs.Values.{Answer, number_found, truth_found, same_found, as_value, as_operand, as_condition, as_assertion, decided_found}
 use Rattle.shade_typing.specs.Assignments.{as_target, as_stepped, IsAssigned}
 use Rattle.shade_typing.specs.Operators.{applied, IsInfix, IsPrefix}
 use Rattle.shade_typing.specs.Parts.{member_answer, element_answer}
 use Rattle.shade_calls.specs.Calls.{row_of}
 use Rattle.shade_calls.specs.Names.{name_answer}
 use Rattle.shade_calls.specs.Templates.{template_answer}
+use Rattle.shade_tasks.specs.Arguments.{as_argument}
 use Rattle.shade_tasks.specs.Compounds.{IsCompound}
 use Rattle.shade_tasks.specs.Declared.{as_type, alias_found, IsConstant, result_of, IsReturned}
 use Rattle.shade_tasks.specs.Profile.{out, required, enabled, text_by}
@@ -39,10 +40,11 @@ OperationOf names k place idle (task.Index whole bracket index) r = r ≡ elemen
 OperationOf names k place idle (task.Call callee arguments) r = IsCall (row_of k.types (what_in k.facts callee.node)) k idle arguments place r
 OperationOf names k place idle _ r = ⊥
 
--- names, with or without a template list
+-- names, with or without a template list, and what stands in one
 abbrev pub NamedOf : List (Option Meaning) → List (List ℕ) → Known → ℕ → Place → Task → Answer → Type 0
 NamedOf uses names k node place (task.Name name) r = r ≡ name_answer uses names k node name place
 NamedOf uses names k node place (task.Template name arguments) r = r ≡ template_answer uses names k node name arguments place
+NamedOf uses names k node place (task.Argument list name at) r = r ≡ as_argument uses names k list name at node place
 NamedOf uses names k node place _ r = ⊥
 
 -- conditions, assertions, targets and what changes them
@@ -75,12 +77,14 @@ ProfileOf names place _ r = ⊥
 -- of a node at a place, by whether nobody asks for it
 abbrev pub RuleOf : List (Option Meaning) → List (List ℕ) → Known → ℕ → Place → Bool → Task → Answer → Type 0
 RuleOf uses names k node place idle task.IsValue r = r ≡ as_value k node place
+RuleOf uses names k node place idle task.IsOperand r = r ≡ as_operand k node place
 RuleOf uses names k node place idle (task.Decides operator left) r = r ≡ Ok (decided_found k idle operator left.node)
 RuleOf uses names k node place idle (task.Number value suffix) r = r ≡ Ok (number_found value suffix)
 RuleOf uses names k node place idle (task.Truth b) r = r ≡ Ok (truth_found b)
 RuleOf uses names k node place idle (task.Paren inner) r = r ≡ Ok (same_found k inner.node)
 RuleOf uses names k node place idle (task.Name name) r = NamedOf uses names k node place (task.Name name) r
 RuleOf uses names k node place idle (task.Template name arguments) r = NamedOf uses names k node place (task.Template name arguments) r
+RuleOf uses names k node place idle (task.Argument list name at) r = NamedOf uses names k node place (task.Argument list name at) r
 RuleOf uses names k node place idle task.Condition r = StatementOf k node place task.Condition r
 RuleOf uses names k node place idle (task.Asserts keyword) r = StatementOf k node place (task.Asserts keyword) r
 RuleOf uses names k node place idle task.Target r = StatementOf k node place task.Target r
@@ -104,11 +108,13 @@ Rule uses names k s r = RuleOf uses names k s.node s.place (is_idle k.facts s.un
 -- whether a task is asked here
 abbrev pub is_asked : Known → Task → Bool
 is_asked k task.IsValue = true
+is_asked k task.IsOperand = true
 is_asked k (task.Decides operator left) = true
 is_asked k (task.Number value suffix) = true
 is_asked k (task.Truth b) = true
 is_asked k (task.Name name) = true
 is_asked k (task.Template name arguments) = true
+is_asked k (task.Argument list name at) = true
 is_asked k (task.Paren inner) = true
 is_asked k (task.Prefix operator operand) = true
 is_asked k (task.Infix left operator at right) = true

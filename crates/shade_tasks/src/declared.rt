@@ -7,8 +7,9 @@ ghost use Rattle.shade_known.specs.Answers.{Answers};
 ghost use Rattle.shade_known.specs.Keeps.{IsFoundOf};
 ghost use Rattle.shade_known.specs.Lookups.{what_in};
 ghost use Rattle.shade_typing.specs.Assignments.{IsConverted, checked};
-ghost use Rattle.shade_tasks.specs.Declared.{IsBound, IsConstant, IsReturned, alias_found, as_type, bad_place, bound, in_storage, may_be_unsized, may_stand, result_of};
+ghost use Rattle.shade_tasks.specs.Declared.{IsBound, IsConstant, IsReturned, access_by, alias_found, as_type, bound, in_storage, is_told, may_be_unsized, may_stand, result_of};
 
+use crate::arguments::{is_bad_type, is_storage};
 use crate::compounds::breaks;
 use shade_base::Place;
 use shade_calls::{declared, is_runtime_array, is_runtime_sized, written_type};
@@ -18,18 +19,15 @@ use shade_known::{
 };
 use shade_steps::TypeRole;
 use shade_typing::same_as;
-use shade_values::{ShadeType, Space, TypeId, Value};
+use shade_values::{ShadeType, TypeId, Value};
 use std::alloc::Global;
 
 fn in_storage(known: &Known, space: Option<Operand>) -> bool
     ensures { result ≡ in_storage known.now space }
 {
-    let Some(word) = space else {
-        return false;
-    };
-    match what_at(&known.facts, word.node) {
-        Some(What::Space(Space::Storage)) => true,
-        _ => false,
+    match space {
+        Some(word) => is_storage(known, word.node),
+        None => false,
     }
 }
 
@@ -55,8 +53,29 @@ fn may_stand(known: &Known, role: TypeRole, ty: ShadeType) -> bool
     true
 }
 
+/// Whether the type is asked for the access of its pointer.
+fn is_told(role: TypeRole) -> bool
+    ensures { result ≡ is_told role }
+{
+    match role {
+        TypeRole::Parameter => false,
+        TypeRole::Alias | TypeRole::Variable(_) | TypeRole::LastMember | TypeRole::Other => true,
+    }
+}
+
+fn access_by(role: TypeRole, is_bad: bool, place: Place) -> Result<Found, TypingFault>
+    ensures answer { result ≡ access_by role is_bad place }
+    ensures of { (t : Table) → IfOk result (IsFoundOf t) }
+{
+    if is_told(role) && is_bad {
+        return Err(breaks(place, TypeRule::Space));
+    }
+    Ok(Found::Nothing)
+}
+
 /// Whether a node is a type that may stand where it is asked: the rule of templates fails at its place where it is none, or a buffer decides its
-/// size and it may not. Takes no memory.
+/// size and it may not; the rule of spaces where it is a pointer whose access is none of its space, but for the type of a parameter. Takes no
+/// memory.
 pub(crate) fn used_as_type(
     known: &Known,
     role: TypeRole,
@@ -70,7 +89,7 @@ pub(crate) fn used_as_type(
         return Err(breaks(place, TypeRule::Template));
     };
     if may_stand(known, role, ty) {
-        return Ok(Found::Nothing);
+        return access_by(role, is_bad_type(known, node), place);
     }
     Err(breaks(place, TypeRule::Template))
 }
@@ -81,18 +100,6 @@ pub(crate) fn alias(alloc: Global, known: &Known, ty: Operand) -> Result<Found, 
     ensures of { IfOk result (λ f. IsFoundOf known.now.types f) }
 {
     Ok(declared(alloc, known, ty.node)?)
-}
-
-fn bad_place(known: &Known, ty: Option<Operand>) -> Option<Place>
-    ensures { result ≡ bad_place known.now ty }
-{
-    let Some(ty) = ty else {
-        return None;
-    };
-    match what_at(&known.facts, ty.node) {
-        Some(What::Type { bad_access, .. }) => { if *bad_access { Some(ty.place) } else { None } }
-        _ => None,
-    }
 }
 
 fn bound(ty: ShadeType, answer: Result<Option<Value>, TypingFault>) -> Result<Found, TypingFault>
@@ -128,8 +135,8 @@ fn bound_to(
 
 /// What the name of a `const` is: its value, in the type that is written.
 ///
-/// The rule of spaces fails at a pointer type whose access is none of its space; `NotConstant` at a value that is no constant; the rule of
-/// conversions fails at a value that does not convert, and `Overflow` is at one that does not fit. Takes memory for the value.
+/// `NotConstant` at a value that is no constant; the rule of conversions fails at a value that does not convert, and `Overflow` is at one that
+/// does not fit. Takes memory for the value.
 pub(crate) fn constant(
     alloc: Global,
     known: &Known,
@@ -139,9 +146,6 @@ pub(crate) fn constant(
     ensures answer { Answers (IsConstant known.now ty value) result }
     ensures of { IfOk result (λ f. IsFoundOf known.now.types f) }
 {
-    if let Some(place) = bad_place(known, ty) {
-        return Err(breaks(place, TypeRule::Space));
-    }
     let Some(_) = value_at(&known.facts, value.node) else {
         return Err(TypingFault::Constant(ConstFault::NotConstant(value.place)));
     };

@@ -1,6 +1,7 @@
 //! The rule of each step that has one so far, and steps taken in order.
 #![tactic(auto)]
 
+mod arguments;
 mod compounds;
 mod declared;
 pub mod law;

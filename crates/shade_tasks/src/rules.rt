@@ -8,18 +8,19 @@ ghost use Rattle.shade_values.specs.Table.{Table};
 ghost use Rattle.shade_calls.specs.Calls.{row_of};
 ghost use Rattle.shade_tasks.specs.Rules.{DeclaredOf, IsCall, NamedOf, OperationOf, ProfileOf, Rule, StatementOf, is_asked};
 
+use crate::arguments::listed;
 use crate::compounds::compound;
 use crate::declared::{alias, constant, returned, used_as_type};
 use crate::profile::{enabled, required};
 use shade_ast::Names;
 use shade_base::Place;
-use shade_calls::{name, out_of_profile, row_of, template};
+use shade_calls::{generator_of, name, out_of_profile, row_of, template};
 use shade_known::{Application, Found, Known, Operand, TypingFault, is_idle, operate};
 use shade_scope::Uses;
 use shade_steps::{Step, Task};
 use shade_typing::{
     Between, Subscript, asserted, assigned, condition, decides, element, infix, member, number,
-    prefix, same_as, stepped, target, truth, used_as_value,
+    prefix, same_as, stepped, target, truth, used_as_operand, used_as_value,
 };
 use std::alloc::Global;
 
@@ -30,11 +31,13 @@ pub fn is_asked(known: &Known, task: &Task) -> bool
 {
     match task {
         Task::IsValue
+        | Task::IsOperand
         | Task::Decides { .. }
         | Task::Number { .. }
         | Task::Truth(_)
         | Task::Name(_)
         | Task::Template { .. }
+        | Task::Argument { .. }
         | Task::Paren(_)
         | Task::Prefix { .. }
         | Task::Infix { .. }
@@ -138,7 +141,7 @@ fn operation_rule(
     }
 }
 
-/// What a name finds, with or without a template list.
+/// What a name finds, with or without a template list, and what is told of an argument of one.
 fn name_rule(
     alloc: Global,
     names: &Names,
@@ -159,6 +162,14 @@ fn name_rule(
             name: used,
             arguments,
         } => template(alloc, names, uses, known, own, *used, arguments.as_slice()),
+        Task::Argument {
+            list,
+            name: used,
+            slot,
+        } => {
+            let word = generator_of(names, uses, *list, *used);
+            listed(word, known, *slot, own)
+        }
         _ => Err(TypingFault::NoMemory),
     }
 }
@@ -234,11 +245,14 @@ pub fn rule(
     let idle = is_idle(&known.facts, step.under);
     match &step.task {
         Task::IsValue => used_as_value(known, step.node, step.place),
+        Task::IsOperand => used_as_operand(known, step.node, step.place),
         Task::Decides { operator, left } => Ok(decides(known, idle, *operator, left.node)),
         Task::Number { value, suffix } => Ok(number(*value, *suffix)),
         Task::Truth(flag) => Ok(truth(*flag)),
         Task::Paren(inner) => Ok(same_as(alloc, known, inner.node)?),
-        Task::Name(_) | Task::Template { .. } => name_rule(alloc, names, uses, known, step),
+        Task::Name(_) | Task::Template { .. } | Task::Argument { .. } => {
+            name_rule(alloc, names, uses, known, step)
+        }
         Task::Condition | Task::Asserts { .. } | Task::Target => {
             statement_rule(alloc, known, step)
         }

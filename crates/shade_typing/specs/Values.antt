@@ -87,6 +87,10 @@ is_usable t _ = false
 abbrev pub as_value : Known → ℕ → Place → Answer
 as_value k n place = if is_usable k.types (what_in k.facts n) then Ok found.Nothing else breaks place rule.Conversion
 
+-- an operand that is read or changed in parts, or whose address is taken: a value, or memory also of a type that is not loadable
+abbrev pub as_operand : Known → ℕ → Place → Answer
+as_operand k n place = if is_some (type_of_node k n) then Ok found.Nothing else breaks place rule.Conversion
+
 -- ---- conditions
 
 abbrev pub is_bool : Option ShadeType → Bool

@@ -11,4 +11,6 @@ mod values;
 pub use assignments::{assigned, stepped, target};
 pub use operators::{Between, address_of, infix, pointee, prefix};
 pub use parts::{Subscript, concrete, element, member};
-pub use values::{asserted, condition, decides, number, same_as, truth, used_as_value};
+pub use values::{
+    asserted, condition, decides, number, same_as, truth, used_as_operand, used_as_value,
+};

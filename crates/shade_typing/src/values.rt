@@ -7,7 +7,7 @@ ghost use Rattle.shade_values.specs.Apply.{is_true};
 ghost use Rattle.shade_values.specs.Parts.{own_leaf};
 ghost use Rattle.shade_values.specs.Table.{Table};
 ghost use Rattle.shade_known.specs.Keeps.{IsFoundOf};
-ghost use Rattle.shade_typing.specs.Values.{as_assertion, as_condition, as_value, constant_scalar, decided_found, decides_by, held, is_bool, is_pointer, is_usable, lazy_op, number_found, reference_found, same_found, truth_found, value_found};
+ghost use Rattle.shade_typing.specs.Values.{as_assertion, as_condition, as_operand, as_value, constant_scalar, decided_found, decides_by, held, is_bool, is_pointer, is_usable, lazy_op, number_found, reference_found, same_found, truth_found, value_found};
 
 use shade_ast::Infix;
 use shade_base::Place;
@@ -174,6 +174,17 @@ pub fn used_as_value(known: &Known, node: u32, place: Place) -> Result<Found, Ty
     ensures of { IfOk result (λ f. IsFoundOf known.now.types f) }
 {
     if is_usable(&known.types, what_at(&known.facts, node)) {
+        return Ok(Found::Nothing);
+    }
+    Err(breaks(place, TypeRule::Conversion))
+}
+
+/// Whether a node is a value or names memory: the rule of conversions fails at its place where it does neither. Takes no memory.
+pub fn used_as_operand(known: &Known, node: u32, place: Place) -> Result<Found, TypingFault>
+    ensures answer { result ≡ as_operand known.now node place }
+    ensures of { IfOk result (λ f. IsFoundOf known.now.types f) }
+{
+    if type_at(known, node).is_some() {
         return Ok(Found::Nothing);
     }
     Err(breaks(place, TypeRule::Conversion))

@@ -16,9 +16,9 @@ add_steps-returns-in_ok-owns-in-Template t c =
     {o1 = c.add_listed.new.out} {o2 = c.add-in-Template.new.out} c.in-Template.is c.in_ok-owns-in-Template.ensures c.in_ok-add_listed-in-Template.ensures h)
     c.add-in-Template.ensures
 
-pub add_steps-returns-in_ok-add_steps-in-Paren : goal.add_steps-returns-in_ok-add_steps-in-Paren
-add_steps-returns-in_ok-add_steps-in-Paren t c =
+pub add_steps-returns-in_ok-add_operand-in-Paren : goal.add_steps-returns-in_ok-add_operand-in-Paren
+add_steps-returns-in_ok-add_operand-in-Paren t c =
     then_on c.add-in-Paren.result
     (λ h. of-Paren c.args.e.now c.own_of-own.result c.args.under c.own_of-own.ensures c.in-Paren.inner {mine = c.own_of-in-Paren.result} c.args.out.now
-    {o1 = c.add_steps-in-Paren.new.out} {o2 = c.add-in-Paren.new.out} c.in-Paren.is (rw c.get-in-Paren-2.ensures at c.own_of-in-Paren.ensures) (rw c.get-in-Paren.ensures at c.in_ok-add_steps-in-Paren.ensures) h)
+    {o1 = c.add_operand-in-Paren.new.out} {o2 = c.add-in-Paren.new.out} c.in-Paren.is (rw c.get-in-Paren-2.ensures at c.own_of-in-Paren.ensures) (rw c.get-in-Paren.ensures at c.in_ok-add_operand-in-Paren.ensures) h)
     c.add-in-Paren.ensures
