@@ -32,8 +32,11 @@ module _ (uses : List (Option Meaning)) (names : List (List ℕ)) (steps : List 
   begins_here : (last : Known) → Begins uses names (s ∷ drop (i + 1) steps) now last → Begins uses names steps old last
   begins_here last b = leads.begins last (subst (λ l. Begins uses names l now last) (sym here) b)
 
-  pub leads_on : (f : Found) (next : Known) → Rule uses names now s (Ok f) → Keeps now s.node f next → Leads uses names steps old (i + 1) next
-  leads_on f next rule keeps = record { takes = λ last r rest. from_here last r (goes_on f rule keeps rest); begins = λ last rest. begins_here last (one_more f rule keeps rest) }
+  pub leads_on : (f : Found) (next : Known) → Rule uses names now s (Ok f) → ¬ IsFoundLarge now.types f → Keeps now s.node f next → Leads uses names steps old (i + 1) next
+  leads_on f next rule small keeps = record {
+    takes = λ last r rest. from_here last r (goes_on f rule small keeps rest);
+    begins = λ last rest. begins_here last (one_more f rule small keeps rest);
+  }
 
   pub leads_left : is_asked now s.task ≡ false → Taken uses names steps old now (Ok i)
   leads_left not =

@@ -29,7 +29,7 @@ pub data Takes (uses : List (Option Meaning)) (names : List (List ℕ)) : List S
   ends : {k : Known} → Takes uses names [] k k (Ok [])
   leaves : {s : Step} {others : List Step} {k : Known} → is_asked k s.task ≡ false → Takes uses names (s ∷ others) k k (Ok (s ∷ others))
   goes_on : {s : Step} {others : List Step} {k next last : Known} {r : Result (List Step) TypingFault} (f : Found)
-      → Rule uses names k s (Ok f) → Keeps k s.node f next → Takes uses names others next last r → Takes uses names (s ∷ others) k last r
+      → Rule uses names k s (Ok f) → ¬ IsFoundLarge k.types f → Keeps k s.node f next → Takes uses names others next last r → Takes uses names (s ∷ others) k last r
   fails : {s : Step} {others : List Step} {k : Known} (f : TypingFault) → Rule uses names k s (Err f) → Takes uses names (s ∷ others) k k (Err f)
   too_large : {s : Step} {others : List Step} {k : Known} (f : Found) → Rule uses names k s (Ok f) → IsFoundLarge k.types f
       → Takes uses names (s ∷ others) k k (Err (fault.Rule (size_place s.task s.place) rule.Size))
@@ -38,7 +38,7 @@ pub data Takes (uses : List (Option Meaning)) (names : List (List ℕ)) : List S
 pub data Begins (uses : List (Option Meaning)) (names : List (List ℕ)) : List Step → Known → Known → Type 0 where
   stops : {steps : List Step} {k : Known} → Begins uses names steps k k
   one_more : {s : Step} {others : List Step} {k next last : Known} (f : Found)
-      → Rule uses names k s (Ok f) → Keeps k s.node f next → Begins uses names others next last → Begins uses names (s ∷ others) k last
+      → Rule uses names k s (Ok f) → ¬ IsFoundLarge k.types f → Keeps k s.node f next → Begins uses names others next last → Begins uses names (s ∷ others) k last
 
 -- what a call may answer: how many steps it took, or the fault; want of memory may come in place of each, after some of the steps
 abbrev pub Taken : List (Option Meaning) → List (List ℕ) → List Step → Known → Known → Result ℕ TypingFault → Type 0

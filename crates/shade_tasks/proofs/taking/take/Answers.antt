@@ -8,7 +8,7 @@ loop-taken-init c = record { takes = λ last r p. p; begins = λ last p. p }
 pub loop-taken-preserved : goal.loop-taken-preserved
 loop-taken-preserved c =
     leads_on c.args.uses.now c.args.names.now c.args.steps.now c.args.known.now c.loop-taken.taken c.loop-taken.known c.index-steps-taken.result c.loop-taken.invariant c.loop-taken-test.true c.index-steps-taken.is
-    c.in_ok-found.found c.keep.new.known c.in_ok-found.ensures.answer c.in_ok-keep.ensures.kept
+    c.in_ok-found.found c.keep.new.known c.in_ok-found.ensures.answer c.in_ok-keep.ensures.small c.in_ok-keep.ensures.kept
 
 pub returns-then-not-is_asked : goal.returns-then-not-is_asked
 returns-then-not-is_asked c =
