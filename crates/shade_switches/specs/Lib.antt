@@ -1,0 +1,4 @@
+-- Rules: Calls, Signatures, Switches.
+pub mod Calls
+pub mod Signatures
+pub mod Switches
