@@ -19,9 +19,9 @@ use Rattle.shade_rules.specs.declared.statements.Finding.{Finding}
 use Rattle.shade_rules.specs.declared.statements.Told.{Told}
 use Rattle.shade_rules.specs.Aliases.{Conflict, HasNoAlias, AreFree, IsFirstOf, IsFirstAliasIn, IsFirstAlias}
 use Rattle.shade_rules.specs.Findings.{findings, place_of, told_of}
-use Rattle.shade_rules.specs.Gathered.{Rows, row_at, AreUsages}
+use Rattle.shade_rules.specs.Gathered.{Rows, AreUsages}
 use Rattle.shade_rules.specs.Found.{HasNoneAt, IsAliasIn, IsCallAt, IsFirstCall, IsFoundIn}
-use Rattle.shade_rules.specs.Scans.{Known, IsFirstAmong}
+use Rattle.shade_rules.specs.Scans.{KnownAt, IsFirstAmong}
 use Rattle.shade_rules.proofs.ScanLaws.{conflict_of, known_of, first_map, none_map}
 
 none_some : {A : Type 0} (pair : AliasPair) → Some pair ≡ None → A
@@ -88,7 +88,7 @@ place_found found places n x same lt is = ap (λ ps. slice_get ps n) (sym same) 
 
 -- ---- a function
 
-alias_call : (rows : Rows) (head : Head) (pair : AliasPair) → IsAliasIn rows head (Some pair) → (g : ℕ) × (args : List Argument) × (head ≡ calls g args) × IsFirstOf (Known (row_at rows g)) args pair.first pair.second
+alias_call : (rows : Rows) (head : Head) (pair : AliasPair) → IsAliasIn rows head (Some pair) → (g : ℕ) × (args : List Argument) × (head ≡ calls g args) × IsFirstOf (KnownAt rows g) args pair.first pair.second
 alias_call rows (calls g args) pair h = (g, args, refl, h.some)
 alias_call rows (does act) pair h = none_some pair h
 alias_call rows (jumps act) pair h = none_some pair h
@@ -99,8 +99,8 @@ alias_call rows (loops leave) pair h = none_some pair h
 module _ (functions : List CoreFunction) (rows : Rows) (are : AreUsages functions rows) where
   free : (s : Standing) → HasNoneAt rows s → HasNoAlias functions s
   free s h g args e =
-      let known : IsFirstAmong (Known (row_at rows g)) args None = subst (λ (head : Head). IsAliasIn rows head None) e h in
-      none_map (Known (row_at rows g)) (Conflict functions g) args (known_of functions rows are g) known.none
+      let known : IsFirstAmong (KnownAt rows g) args None = subst (λ (head : Head). IsAliasIn rows head None) e h in
+      none_map (KnownAt rows g) (Conflict functions g) args (known_of functions rows are g) known.none
 
   all_free : (list : List Standing) → All (HasNoneAt rows) list → All (HasNoAlias functions) list
   all_free list h k d lt = free (get_or list k d) (h k d lt)
@@ -111,7 +111,7 @@ found_none rows function h = record { some = tt; none = λ functions are. all_fr
 pub found_some : (rows : Rows) (function : CoreFunction) (found : CallAlias) (place : Place) → IsCallAt rows (statements (code_of function.body)) found → slice_get (list_places function.body) found.call ≡ Some place
     → IsFoundIn rows function (Some (Alias place found.pair.first found.pair.second))
 found_some rows function found place h stands =
-    let a : (g : ℕ) × (args : List Argument) × (h.statement.head ≡ calls g args) × IsFirstOf (Known (row_at rows g)) args found.pair.first found.pair.second = alias_call rows h.statement.head found.pair h.alias in
+    let a : (g : ℕ) × (args : List Argument) × (h.statement.head ≡ calls g args) × IsFirstOf (KnownAt rows g) args found.pair.first found.pair.second = alias_call rows h.statement.head found.pair h.alias in
     record {
       some = λ functions are. record {
         number = found.call;
@@ -123,7 +123,7 @@ found_some rows function found place h stands =
         is_call = a.2;
         first = found.pair.first;
         second = found.pair.second;
-        clash = first_map (Known (row_at rows a.0)) (Conflict functions a.0) a.1 found.pair.first found.pair.second (conflict_of functions rows are a.0) (known_of functions rows are a.0) a.3;
+        clash = first_map (KnownAt rows a.0) (Conflict functions a.0) a.1 found.pair.first found.pair.second (conflict_of functions rows are a.0) (known_of functions rows are a.0) a.3;
         place = place;
         stands = stands;
         is = refl;

@@ -1,7 +1,11 @@
 mod FindingLaws
 mod FaultLaws
 mod UsageLaws
-mod SameLaws
+mod GainLaws
+mod NumberLaws
+mod SetLaws
+mod GatherLaws
+mod FewLaws
 mod ScanLaws
 mod RowLaws
 mod AliasLaws

@@ -1,9 +1,9 @@
 -- Rows of usages, function by function, each behind those that it calls.
-use Rattle.std.proofs.Common.{◌≡◌, refl, sym, ap, subst, ◌∙◌, ℕ, zero, suc, ◌+◌, ◌<◌, ◌≤◌, List, [], ◌∷◌, ◌++◌, length, get_or, map, Some, inl, inr, arith}
+use Rattle.std.proofs.Common.{◌≡◌, refl, sym, ap, subst, ◌∙◌, ℕ, zero, suc, ◌+◌, ◌<◌, ◌≤◌, List, [], ◌∷◌, ◌++◌, length, get_or, Option, Some, inl, inr, arith}
 use Rattle.std.specs.Prelude.{◌⊎◌, ◌↔◌, Contains, slice_get, slice_set}
 use Rattle.std.specs.Option.{option_map}
 use Rattle.std.proofs.lemmas.Bool.{cases_lt}
-use Rattle.std.proofs.lemmas.List.{length-map, length-append, map-append}
+use Rattle.std.proofs.lemmas.List.{length-map, length-append}
 use Rattle.std.proofs.lemmas.List.Elements.{Contains-append_left, Contains-append_right, Contains-append_cases}
 use Rattle.std.proofs.lemmas.Option.{slice_get-map, slice_get-get_or}
 use Rattle.shade_core.specs.declared.statement.Argument.{Argument}
@@ -13,9 +13,10 @@ use Rattle.shade_core.specs.Standing.{Standing, does, jumps, calls, branches, sw
 use Rattle.shade_chains.specs.Events.{deeper, event, events, plain_events}
 use Rattle.shade_chains.specs.Orders.{RowCalls, IsOrder}
 use Rattle.shade_chains.specs.Tops.{rows_in}
-use Rattle.shade_rules.specs.declared.usage.Usage.{Usage}
-use Rattle.shade_rules.specs.Gathered.{Rows, row_at, function_usages, IsUnknown, AreUsages}
-use Rattle.shade_rules.specs.Usages.{StandsIn, Uses}
+use Rattle.shade_rules.specs.declared.usage.Row.{Row}
+use Rattle.shade_rules.specs.Gathered.{Rows, HasBy, HasAt, FunctionGives, IsUnknown, AreUsages}
+use Rattle.shade_rules.specs.Sets.{HasUsage}
+use Rattle.shade_rules.specs.Usages.{Usage, StandsIn, Uses}
 use Rattle.shade_rules.proofs.UsageLaws as laws
 use Rattle.shade_rules.proofs.UsageLaws.{none_in, behind_of, first_of, uses_within, function_sound, function_complete}
 
@@ -106,12 +107,12 @@ row_calls functions k g args stands =
 
 -- ---- one row for another
 
-set_here : (rows : Rows) (k : ℕ) (row : List Usage) → k < length rows → row_at (slice_set rows k row) k ≡ row
+set_here : (rows : Rows) (k : ℕ) (row : Row) → k < length rows → slice_get (slice_set rows k row) k ≡ Some row
 set_here [] k row lt = absurd (omega (arith, lt))
 set_here (r ∷ rows) zero row lt = refl
 set_here (r ∷ rows) (suc k) row lt = set_here rows k row (omega (arith, lt))
 
-set_there : (rows : Rows) (k g : ℕ) (row : List Usage) → (k ≡ g → ⊥) → row_at (slice_set rows k row) g ≡ row_at rows g
+set_there : (rows : Rows) (k g : ℕ) (row : Row) → (k ≡ g → ⊥) → slice_get (slice_set rows k row) g ≡ slice_get rows g
 set_there [] k g row ne = refl
 set_there (r ∷ rows) zero zero row ne = absurd (ne refl)
 set_there (r ∷ rows) zero (suc g) row ne = refl
@@ -128,31 +129,31 @@ same_or k g = elim (cases_lt k g) [
 module _ (functions : List CoreFunction) where
   -- what the rows tell is so
   abbrev pub AreSound : Rows → Type 0
-  AreSound rows = (g : ℕ) (u : Usage) → Contains (row_at rows g) u → Uses functions g u
+  AreSound rows = (g : ℕ) (u : Usage) → HasAt rows g u → Uses functions g u
 
   -- of the first functions of an order the rows tell all
   abbrev pub AreWhole : List ℕ → ℕ → Rows → Type 0
-  AreWhole order n rows = (i k : ℕ) → i < n → slice_get order i ≡ Some k → (u : Usage) → Uses functions k u → Contains (row_at rows k) u
+  AreWhole order n rows = (i k : ℕ) → i < n → slice_get order i ≡ Some k → (u : Usage) → Uses functions k u → HasAt rows k u
 
-  pub empty_sound : (rows : Rows) → ((k : ℕ) → row_at rows k ≡ []) → AreSound rows
-  empty_sound rows empty g u h = absurd (none_in u (subst (λ (r : List Usage). Contains r u) (empty g) h))
+  pub empty_sound : (rows : Rows) → ((k : ℕ) (u : Usage) → HasAt rows k u → ⊥) → AreSound rows
+  empty_sound rows empty g u h = absurd (empty g u h)
 
   pub none_whole : (order : List ℕ) (rows : Rows) → AreWhole order 0 rows
   none_whole order rows i k lt = absurd (omega (arith, lt))
 
-  module _ (rows : Rows) (k : ℕ) (f : CoreFunction) (row : List Usage) (sound : AreSound rows) (at : slice_get functions k ≡ Some f) (long : k < length rows)
-      (is : (u : Usage) → Contains row u ↔ Contains (function_usages rows f) u) where
+  module _ (rows : Rows) (k : ℕ) (f : CoreFunction) (row : Row) (sound : AreSound rows) (at : slice_get functions k ≡ Some f) (long : k < length rows)
+      (is : (u : Usage) → HasUsage row u ↔ FunctionGives (HasAt rows) f u) where
     pub next_sound : AreSound (slice_set rows k row)
     next_sound g u h = elim (same_or k g) [
       | inl same ↦
-          let here : Contains row u = subst (λ (r : List Usage). Contains r u) (set_here rows k row long) (subst (λ (n : ℕ). Contains (row_at (slice_set rows k row) n) u) (sym same) h) in
+          let here : HasUsage row u = subst (λ (o : Option Row). HasBy o u) (set_here rows k row long) (subst (λ (n : ℕ). HasAt (slice_set rows k row) n u) (sym same) h) in
           subst (λ (n : ℕ). Uses functions n u) same (function_sound functions rows sound k f u at ((is u).0 here))
-      | inr apart ↦ sound g u (subst (λ (r : List Usage). Contains r u) (set_there rows k g row apart) h)
+      | inr apart ↦ sound g u (subst (λ (o : Option Row). HasBy o u) (set_there rows k g row apart) h)
     ]
 
     -- whatever stands behind its callees tells all
     module _ (order : List ℕ) (n : ℕ) (ordered : IsOrder (rows_in functions) order) (here : slice_get order n ≡ Some k) (whole : AreWhole order n rows) where
-      callee : (g : ℕ) (args : List Argument) (u : Usage) → StandsIn functions k (calls g args) → Uses functions g u → Contains (row_at rows g) u
+      callee : (g : ℕ) (args : List Argument) (u : Usage) → StandsIn functions k (calls g args) → Uses functions g u → HasAt rows g u
       callee g args u stands used =
           let within : g < length (rows_in functions) =
           (let few : g < length functions = uses_within functions g u used in
@@ -161,15 +162,15 @@ module _ (functions : List CoreFunction) where
           let earlier : (j : ℕ) × (j < n) × (slice_get order j ≡ Some g) = ordered.behind n k g here (row_calls functions k g args stands) within in
           whole earlier.0 g earlier.1 earlier.2 u used
 
-      own : (u : Usage) → Uses functions k u → Contains row u
+      own : (u : Usage) → Uses functions k u → HasUsage row u
       own u used = (is u).1 (function_complete functions rows k f at callee u used)
 
       pub next_whole : AreWhole order (n + 1) (slice_set rows k row)
       next_whole i g lt there u used = elim (same_or k g) [
         | inl same ↦
-            subst (λ (m : ℕ). Contains (row_at (slice_set rows k row) m) u) same
-            (subst (λ (r : List Usage). Contains r u) (sym (set_here rows k row long)) (own u (subst (λ (m : ℕ). Uses functions m u) (sym same) used)))
-        | inr apart ↦ subst (λ (r : List Usage). Contains r u) (sym (set_there rows k g row apart)) (whole i g (before i g lt there apart) there u used)
+            subst (λ (m : ℕ). HasAt (slice_set rows k row) m u) same
+            (subst (λ (o : Option Row). HasBy o u) (sym (set_here rows k row long)) (own u (subst (λ (m : ℕ). Uses functions m u) (sym same) used)))
+        | inr apart ↦ subst (λ (o : Option Row). HasBy o u) (sym (set_there rows k g row apart)) (whole i g (before i g lt there apart) there u used)
       ]
         where
           -- it is one of those before
@@ -200,7 +201,7 @@ module _ (functions : List CoreFunction) where
 
 -- ---- the turns of the loop over an order
 
-length_set : (rows : Rows) (k : ℕ) (row : List Usage) → length (slice_set rows k row) ≡ length rows
+length_set : (rows : Rows) (k : ℕ) (row : Row) → length (slice_set rows k row) ≡ length rows
 length_set [] k row = refl
 length_set (r ∷ rows) zero row = refl
 length_set (r ∷ rows) (suc k) row = ap suc (length_set rows k row)
@@ -221,8 +222,8 @@ pub record IsGathered (functions : List CoreFunction) (order : List ℕ) (n : �
 pub gathered_first : (functions : List CoreFunction) (order : List ℕ) (rows : Rows) (count : ℕ) → IsUnknown count rows → count ≡ length functions → IsGathered functions order 0 rows
 gathered_first functions order rows count h e = record { long = h.long ∙ e; sound = empty_sound functions rows h.empty; whole = none_whole functions order rows }
 
-pub gathered_next : (functions : List CoreFunction) (order : List ℕ) (n d : ℕ) (rows more : Rows) (f : CoreFunction) (row : List Usage) → IsOrder (rows_in functions) order → n < length order → f ≡ get_or functions (get_or order n d) f
-    → IsGathered functions order n rows → ((u : Usage) → Contains row u ↔ Contains (function_usages rows f) u) → more ≡ slice_set rows (get_or order n d) row → IsGathered functions order (n + 1) more
+pub gathered_next : (functions : List CoreFunction) (order : List ℕ) (n d : ℕ) (rows more : Rows) (f : CoreFunction) (row : Row) → IsOrder (rows_in functions) order → n < length order → f ≡ get_or functions (get_or order n d) f
+    → IsGathered functions order n rows → ((u : Usage) → HasUsage row u ↔ FunctionGives (HasAt rows) f u) → more ≡ slice_set rows (get_or order n d) row → IsGathered functions order (n + 1) more
 gathered_next functions order n d rows more f row ordered lt is g row_is m =
     let k = get_or order n d in
     let within : k < length functions = function_within functions order n d ordered lt in
@@ -239,29 +240,24 @@ pub gathered_all : (functions : List CoreFunction) (order : List ℕ) (n : ℕ) 
 gathered_all functions order n rows ordered past g = all_usages functions rows order n ordered past g.sound g.whole
 
 -- as many rows as functions
-pub row_within : {X : Type 0} (f : X → List Usage) (rows : List X) (functions : List CoreFunction) (order : List ℕ) (n k : ℕ) → IsGathered functions order n (map f rows) → k < length functions → k < length rows
-row_within f rows functions order n k g lt =
-    let long : length (map f rows) ≡ length functions = g.long in
-    let same : length (map f rows) ≡ length rows = length-map rows f in
-    omega (arith, lt, long, same)
+pub row_within : (rows : Rows) (functions : List CoreFunction) (order : List ℕ) (n k : ℕ) → IsGathered functions order n rows → k < length functions → k < length rows
+row_within rows functions order n k g lt = let long : length rows ≡ length functions = g.long in omega (arith, lt, long)
 
 -- rows of functions of which nothing is known
-empty_more : (rows : Rows) → ((k : ℕ) → row_at rows k ≡ []) → (k : ℕ) → row_at (rows ++ [] ∷ []) k ≡ []
-empty_more [] h zero = refl
-empty_more [] h (suc k) = refl
-empty_more (r ∷ rows) h zero = h zero
-empty_more (r ∷ rows) h (suc k) = empty_more rows (λ j. h (suc j)) k
+empty_more : (rows : Rows) (row : Row) → ((u : Usage) → HasUsage row u → ⊥) → ((k : ℕ) (u : Usage) → HasAt rows k u → ⊥) → (k : ℕ) (u : Usage) → HasAt (rows ++ row ∷ []) k u → ⊥
+empty_more [] row none h zero u x = none u x
+empty_more [] row none h (suc k) u x = x
+empty_more (r ∷ rows) row none h zero u x = h zero u x
+empty_more (r ∷ rows) row none h (suc k) u x = empty_more rows row none (λ j. h (suc j)) k u x
 
-pub unknown_first : {X : Type 0} (f : X → List Usage) (rows : List X) → rows ≡ [] → IsUnknown 0 (map f rows)
-unknown_first f rows e = subst (λ l. IsUnknown 0 (map f l)) (sym e) (record { long = refl; empty = λ k. refl })
+pub unknown_first : (rows : Rows) → rows ≡ [] → IsUnknown 0 rows
+unknown_first rows e = subst (λ (l : Rows). IsUnknown 0 l) (sym e) (record { long = refl; empty = λ k u h. h })
 
-pub unknown_more : {X : Type 0} (f : X → List Usage) (rows more : List X) (n : ℕ) (x : X) → more ≡ rows ++ x ∷ [] → f x ≡ [] → IsUnknown n (map f rows) → IsUnknown (n + 1) (map f more)
-unknown_more f rows more n x m none h =
-    let is : map f more ≡ map f rows ++ [] ∷ [] = ap (map f) m ∙ (map-append f rows (x ∷ []) ∙ ap (λ l. map f rows ++ l ∷ []) none) in
-    record {
-      long = ap length is ∙ (length-append (map f rows) ([] ∷ []) ∙ ap (λ k. k + 1) h.long);
-      empty = λ k. ap (λ l. row_at l k) is ∙ empty_more (map f rows) h.empty k;
-    }
+pub unknown_more : (rows more : Rows) (n : ℕ) (row : Row) → more ≡ rows ++ row ∷ [] → ((u : Usage) → HasUsage row u → ⊥) → IsUnknown n rows → IsUnknown (n + 1) more
+unknown_more rows more n row m none h = record {
+  long = ap length m ∙ (length-append rows (row ∷ []) ∙ ap (λ k. k + 1) h.long);
+  empty = λ k u x. empty_more rows row none h.empty k u (subst (λ (l : Rows). HasAt l k u) m x);
+}
 
 pub unknown_all : (rows : Rows) (n count : ℕ) → count ≤ n → n ≤ count → IsUnknown n rows → IsUnknown count rows
 unknown_all rows n count past within h = let same : n ≡ count = omega (arith, past, within) in subst (λ k. IsUnknown k rows) same h

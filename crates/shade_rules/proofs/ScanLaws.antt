@@ -1,6 +1,6 @@
 -- What is looked for in a call is found, and is what the rule on aliases says.
-use Rattle.std.proofs.Common.{◌≡◌, refl, sym, ap, subst, ◌∙◌, ℕ, ◌+◌, ◌<◌, ◌≤◌, Bool, true, false, ◌&&◌, ◌||◌, List, [], ◌∷◌, length, get_or, Option, None, Some, inl, inr, arith}
-use Rattle.std.specs.Prelude.{◌⊎◌, nat_lt, Contains, slice_get, if◌then◌else◌}
+use Rattle.std.proofs.Common.{◌≡◌, refl, sym, ap, subst, ◌∙◌, ℕ, ◌+◌, ◌<◌, ◌≤◌, Bool, true, false, ◌&&◌, ◌||◌, List, length, get_or, Option, None, Some, inl, inr, arith}
+use Rattle.std.specs.Prelude.{◌⊎◌, ◌↔◌, nat_lt, slice_get, if◌then◌else◌}
 use Rattle.std.proofs.lemmas.Bool.{eqb-true, eq-eqb, cases_lt}
 use Rattle.std.proofs.lemmas.Bool.Decides.{nat_tests}
 use Rattle.std.proofs.lemmas.Option.{slice_get-get_or, slice_get_within}
@@ -13,22 +13,18 @@ use Rattle.shade_core.specs.declared.statement.View.{View}
 use Rattle.shade_core.specs.declared.module.CoreFunction.{CoreFunction}
 use Rattle.shade_rules.specs.declared.aliasing.AliasOther.{AliasOther}
 use Rattle.shade_rules.specs.declared.aliasing.AliasOther.TheVariants as other
+use Rattle.shade_rules.specs.declared.aliasing.AliasPair.{AliasPair}
+use Rattle.shade_rules.specs.declared.usage.Row.{Row}
 use Rattle.shade_rules.specs.declared.usage.Seen.{Seen}
 use Rattle.shade_rules.specs.declared.usage.Seen.TheVariants.{Parameter, Variable}
-use Rattle.shade_rules.specs.declared.usage.Usage.{Usage}
+use Rattle.shade_rules.specs.declared.usage.UsageKind.TheVariants.{Read, Write}
 use Rattle.shade_rules.specs.Aliases.{Touches, Conflict, Clash, argument, variable, OtherBefore, IsFirstOf, HasNone}
-use Rattle.shade_rules.specs.Gathered.{Rows, row_at, AreUsages}
-use Rattle.shade_rules.specs.Scans.{same_seen, same_flag, is_usage, has, touches, conflicts, Known, same_base, is_alias, own_variable, is_later, IsLater, IsFirstLater, IsFirstFor, IsFirstAmong}
-use Rattle.shade_rules.specs.Usages.{usage}
-use Rattle.shade_rules.proofs.UsageLaws.{none_in, cases_of, behind_of, first_of}
-
-false_true : {A : Type 0} → false ≡ true → A
-false_true e = let no_one : ⊥ = cc e in absurd no_one
-
-both : (a b : Bool) → (a && b) ≡ true → (a ≡ true) × (b ≡ true)
-both true true e = (refl, refl)
-both true false e = false_true e
-both false b e = false_true e
+use Rattle.shade_rules.specs.Gathered.{Rows, HasBy, AreUsages}
+use Rattle.shade_rules.specs.Scans.{touches, conflicts, Known, KnownBy, KnownAt, same_base, is_alias, own_variable, is_later, IsLater, IsFirstLater, IsFirstFor, IsFirstAmong}
+use Rattle.shade_rules.specs.Sets.{HasUsage, has}
+use Rattle.shade_rules.specs.Usages.{Usage, usage, Uses}
+use Rattle.shade_rules.proofs.FewLaws.{both}
+use Rattle.shade_rules.proofs.NumberLaws.{false_true}
 
 both_true : (a b : Bool) → a ≡ true → b ≡ true → (a && b) ≡ true
 both_true a b e g = ap (λ x. x && b) e ∙ g
@@ -50,27 +46,7 @@ is_less i j e = grind (arith, nat_tests)
 less_is : (i j : ℕ) → i < j → nat_lt i j ≡ true
 less_is i j lt = grind (arith, nat_tests)
 
--- ---- a row, and what its function uses
-
-flag_same : (a b : Bool) → same_flag a b ≡ true → b ≡ a
-flag_same true true e = refl
-flag_same true false e = false_true e
-flag_same false true e = false_true e
-flag_same false false e = refl
-
-flag_self : (a : Bool) → same_flag a a ≡ true
-flag_self true = refl
-flag_self false = refl
-
-seen_same : (a b : Seen) → same_seen a b ≡ true → b ≡ a
-seen_same (Parameter i) (Parameter j) e = ap Parameter (sym (eqb-true i j e))
-seen_same (Variable r) (Variable s) e = ap Variable (sym (eqb-true r s e))
-seen_same (Parameter i) (Variable r) e = false_true e
-seen_same (Variable r) (Parameter i) e = false_true e
-
-seen_self : (a : Seen) → same_seen a a ≡ true
-seen_self (Parameter i) = eq-eqb i i refl
-seen_self (Variable r) = eq-eqb r r refl
+-- ---- bases
 
 base_same : (a b : Base) → same_base a b ≡ true → a ≡ b
 base_same (Local x) (Local y) e = ap Local (eqb-true x y e)
@@ -88,53 +64,67 @@ base_self (Local x) = eq-eqb x x refl
 base_self (Module r) = eq-eqb r r refl
 base_self (Pointee i) = eq-eqb i i refl
 
-usage_is : (writes : Bool) (seen : Seen) (u : Usage) → is_usage writes seen u ≡ true → u ≡ usage writes seen
-usage_is writes seen u e =
-    let h : (same_flag writes u.writes ≡ true) × (same_seen seen u.target ≡ true) = both (same_flag writes u.writes) (same_seen seen u.target) e in
-    λ i. record { writes = flag_same writes u.writes h.0 i; target = seen_same seen u.target h.1 i }
+-- ---- a row, and what its function uses
 
-has_in : (row : List Usage) (writes : Bool) (seen : Seen) → has row writes seen ≡ true → Contains row (usage writes seen)
-has_in [] writes seen e = false_true e
-has_in (u ∷ row) writes seen e = elim (either (is_usage writes seen u) (has row writes seen) e) [
-  | inl here ↦ subst (λ (v : Usage). Contains (v ∷ row) (usage writes seen)) (sym (usage_is writes seen u here)) (first_of (usage writes seen) row)
-  | inr later ↦ behind_of u row (usage writes seen) (has_in row writes seen later)
-]
+module _ (functions : List CoreFunction) (g : ℕ) (row : Row) (are : (u : Usage) → HasUsage row u ↔ Uses functions g u) where
+  touched : (seen : Seen) → touches row seen ≡ true → Touches functions g seen
+  touched seen e = elim (either (has row Read seen) (has row Write seen) e) [
+    | inl reads ↦ inl ((are (usage Read seen)).0 reads)
+    | inr writes ↦ inr ((are (usage Write seen)).0 writes)
+  ]
 
-in_has : (row : List Usage) (writes : Bool) (seen : Seen) → Contains row (usage writes seen) → has row writes seen ≡ true
-in_has [] writes seen h = absurd (none_in (usage writes seen) h)
-in_has (u ∷ row) writes seen h = elim (cases_of u row (usage writes seen) h) [
-  | inl e ↦ left_true (is_usage writes seen u) (has row writes seen) (ap (is_usage writes seen) e ∙ both_true (same_flag writes writes) (same_seen seen seen) (flag_self writes) (seen_self seen))
-  | inr later ↦ right_true (is_usage writes seen u) (has row writes seen) (in_has row writes seen later)
-]
+  in_touched : (seen : Seen) → Touches functions g seen → touches row seen ≡ true
+  in_touched seen (inl reads) = left_true (has row Read seen) (has row Write seen) ((are (usage Read seen)).1 reads)
+  in_touched seen (inr writes) = right_true (has row Read seen) (has row Write seen) ((are (usage Write seen)).1 writes)
+
+  conflict_in : (one two : Seen) → Known row one two → Conflict functions g one two
+  conflict_in one two e = elim (either (has row Write one && touches row two) (touches row one && has row Write two) e) [
+    | inl first_ ↦
+        let h : (has row Write one ≡ true) × (touches row two ≡ true) = both (has row Write one) (touches row two) first_ in
+        inl ((are (usage Write one)).0 h.0, touched two h.1)
+    | inr second_ ↦
+        let h : (touches row one ≡ true) × (has row Write two ≡ true) = both (touches row one) (has row Write two) second_ in
+        inr (touched one h.0, (are (usage Write two)).0 h.1)
+  ]
+
+  known_in : (one two : Seen) → Conflict functions g one two → Known row one two
+  known_in one two (inl h) =
+      left_true (has row Write one && touches row two) (touches row one && has row Write two) (both_true (has row Write one) (touches row two) ((are (usage Write one)).1 h.0) (in_touched two h.1))
+  known_in one two (inr h) =
+      right_true (has row Write one && touches row two) (touches row one && has row Write two) (both_true (touches row one) (has row Write two) (in_touched one h.0) ((are (usage Write two)).1 h.1))
 
 module _ (functions : List CoreFunction) (rows : Rows) (are : AreUsages functions rows) (g : ℕ) where
-  touched : (seen : Seen) → touches (row_at rows g) seen ≡ true → Touches functions g seen
-  touched seen e = elim (either (has (row_at rows g) false seen) (has (row_at rows g) true seen) e) [
-    | inl reads ↦ inl ((are g (usage false seen)).0 (has_in (row_at rows g) false seen reads))
-    | inr writes ↦ inr ((are g (usage true seen)).0 (has_in (row_at rows g) true seen writes))
-  ]
+  row_uses : (o : Option Row) → slice_get rows g ≡ o → (u : Usage) → HasBy o u ↔ Uses functions g u
+  row_uses o e u = subst (λ (p : Option Row). HasBy p u ↔ Uses functions g u) e (are g u)
 
-  in_touched : (seen : Seen) → Touches functions g seen → touches (row_at rows g) seen ≡ true
-  in_touched seen (inl reads) = left_true (has (row_at rows g) false seen) (has (row_at rows g) true seen) (in_has (row_at rows g) false seen ((are g (usage false seen)).1 reads))
-  in_touched seen (inr writes) = right_true (has (row_at rows g) false seen) (has (row_at rows g) true seen) (in_has (row_at rows g) true seen ((are g (usage true seen)).1 writes))
+  pub conflict_of : (one two : Seen) → KnownAt rows g one two → Conflict functions g one two
+  conflict_of one two h = by (slice_get rows g) refl h
+    where
+      by : (o : Option Row) → slice_get rows g ≡ o → KnownBy o one two → Conflict functions g one two
+      by None e h = absurd h
+      by (Some row) e h = conflict_in functions g row (row_uses (Some row) e) one two h
 
-  pub conflict_of : (one two : Seen) → Known (row_at rows g) one two → Conflict functions g one two
-  conflict_of one two e = elim (either (has (row_at rows g) true one && touches (row_at rows g) two) (touches (row_at rows g) one && has (row_at rows g) true two) e) [
-    | inl first_ ↦
-        let h : (has (row_at rows g) true one ≡ true) × (touches (row_at rows g) two ≡ true) = both (has (row_at rows g) true one) (touches (row_at rows g) two) first_ in
-        inl ((are g (usage true one)).0 (has_in (row_at rows g) true one h.0), touched two h.1)
-    | inr second_ ↦
-        let h : (touches (row_at rows g) one ≡ true) × (has (row_at rows g) true two ≡ true) = both (touches (row_at rows g) one) (has (row_at rows g) true two) second_ in
-        inr (touched one h.0, (are g (usage true two)).0 (has_in (row_at rows g) true two h.1))
-  ]
+  pub known_of : (one two : Seen) → Conflict functions g one two → KnownAt rows g one two
+  known_of one two h = by (slice_get rows g) refl
+    where
+      none : slice_get rows g ≡ None → Conflict functions g one two → ⊥
+      none e (inl h) = (row_uses None e (usage Write one)).1 h.0
+      none e (inr h) = (row_uses None e (usage Write two)).1 h.1
 
-  pub known_of : (one two : Seen) → Conflict functions g one two → Known (row_at rows g) one two
-  known_of one two (inl h) =
-      left_true (has (row_at rows g) true one && touches (row_at rows g) two) (touches (row_at rows g) one && has (row_at rows g) true two)
-      (both_true (has (row_at rows g) true one) (touches (row_at rows g) two) (in_has (row_at rows g) true one ((are g (usage true one)).1 h.0)) (in_touched two h.1))
-  known_of one two (inr h) =
-      right_true (has (row_at rows g) true one && touches (row_at rows g) two) (touches (row_at rows g) one && has (row_at rows g) true two)
-      (both_true (touches (row_at rows g) one) (has (row_at rows g) true two) (in_touched one h.0) (in_has (row_at rows g) true two ((are g (usage true two)).1 h.1)))
+      by : (o : Option Row) → slice_get rows g ≡ o → KnownBy o one two
+      by None e = none e h
+      by (Some row) e = known_in functions g row (row_uses (Some row) e) one two h
+
+-- of a callee that is not there no conflict is known
+pub known_nowhere : (rows : Rows) (g : ℕ) (args : List Argument) → slice_get rows g ≡ None → IsFirstAmong (KnownAt rows g) args None
+known_nowhere rows g args e = subst (λ (o : Option Row). IsFirstAmong (KnownBy o) args None) (sym e) (record { some = tt; none = λ i o x. none i o x })
+  where
+    none : (i : ℕ) (o : AliasOther) → Clash (KnownBy None) args i o → ⊥
+    none i o (argument lt at there same h) = h
+    none i o (variable at same h) = h
+
+pub known_there : (rows : Rows) (g : ℕ) (args : List Argument) (row : Row) (found : Option AliasPair) → slice_get rows g ≡ Some row → IsFirstAmong (Known row) args found → IsFirstAmong (KnownAt rows g) args found
+known_there rows g args row found e h = subst (λ (o : Option Row). IsFirstAmong (KnownBy o) args found) (sym e) h
 
 -- ---- one relation for another
 
@@ -161,7 +151,7 @@ one_there x y e = cc
 pub item_at : {A : Type 0} (xs : List A) (n i : ℕ) (x : A) → n ≡ i → i < length xs → x ≡ get_or xs i x → slice_get xs n ≡ Some x
 item_at xs n i x same lt is = ap (slice_get xs) same ∙ (slice_get-get_or xs i x lt ∙ ap Some (sym is))
 
-module _ (row : List Usage) (args : List Argument) (i : ℕ) (base : Base) where
+module _ (row : Row) (args : List Argument) (i : ℕ) (base : Base) where
   -- none of the first arguments is an alias
   abbrev pub NoneBefore : ℕ → Type 0
   NoneBefore n = (k : ℕ) → k < n → IsLater row args i base k → ⊥
@@ -191,7 +181,7 @@ module _ (row : List Usage) (args : List Argument) (i : ℕ) (base : Base) where
 
 -- ---- the aliases of one argument
 
-module _ (row : List Usage) (args : List Argument) (i : ℕ) (view : View) (at : slice_get args i ≡ Some (Pointer view)) where
+module _ (row : Row) (args : List Argument) (i : ℕ) (view : View) (at : slice_get args i ≡ Some (Pointer view)) where
   view_is : (v : View) → slice_get args i ≡ Some (Pointer v) → v ≡ view
   view_is v e = let s : Some (Pointer v) ≡ Some (Pointer view) = sym e ∙ at in cc
 
@@ -268,7 +258,7 @@ module _ (row : List Usage) (args : List Argument) (i : ℕ) (view : View) (at :
 -- ---- arguments one after another
 
 -- an argument that is no pointer has no alias
-pub plain_for : (row : List Usage) (args : List Argument) (i : ℕ) (operand : Operand) → slice_get args i ≡ Some (Plain operand) → IsFirstFor row args i None
+pub plain_for : (row : Row) (args : List Argument) (i : ℕ) (operand : Operand) → slice_get args i ≡ Some (Plain operand) → IsFirstFor row args i None
 plain_for row args i operand at = record { some = tt; none = λ o x. none o x }
   where
     none : (o : AliasOther) → Clash (Known row) args i o → ⊥
@@ -280,7 +270,7 @@ clash_within : (C : Seen → Seen → Type 0) (args : List Argument) (i : ℕ) (
 clash_within C args i o (argument {view = v} lt here there same h) = slice_get_within args i (Pointer v) here
 clash_within C args i o (variable {view = v} here same h) = slice_get_within args i (Pointer v) here
 
-module _ (row : List Usage) (args : List Argument) where
+module _ (row : Row) (args : List Argument) where
   abbrev pub NoClash : ℕ → Type 0
   NoClash n = (k : ℕ) (o : AliasOther) → k < n → Clash (Known row) args k o → ⊥
 

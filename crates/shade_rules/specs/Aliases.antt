@@ -1,5 +1,5 @@
 -- The rule on aliases, and the first call that breaks it. (This project's rule, after WGSL, "Alias Analysis".)
-use Rattle.std.specs.Prelude.{◌≡◌, ◌⊎◌, ℕ, ◌<◌, false, true, List, All, take, Some, slice_get}
+use Rattle.std.specs.Prelude.{◌≡◌, ◌⊎◌, ℕ, ◌<◌, List, All, take, Some, slice_get}
 use Rattle.shade_base.specs.declared.place.Place.{Place}
 use Rattle.shade_core.specs.declared.statement.Argument.{Argument}
 use Rattle.shade_core.specs.declared.statement.Argument.TheVariants.{Pointer}
@@ -15,15 +15,16 @@ use Rattle.shade_rules.specs.declared.aliasing.AliasFault.{AliasFault}
 use Rattle.shade_rules.specs.declared.aliasing.AliasFault.TheVariants.{Alias, NoMemory}
 use Rattle.shade_rules.specs.declared.usage.Seen.{Seen}
 use Rattle.shade_rules.specs.declared.usage.Seen.TheVariants.{Parameter, Variable}
+use Rattle.shade_rules.specs.declared.usage.UsageKind.TheVariants.{Read, Write}
 use Rattle.shade_rules.specs.Usages.{Uses, usage}
 
 -- a function reads or writes something
 abbrev pub Touches : List CoreFunction → ℕ → Seen → Type 0
-Touches functions g seen = Uses functions g (usage false seen) ⊎ Uses functions g (usage true seen)
+Touches functions g seen = Uses functions g (usage Read seen) ⊎ Uses functions g (usage Write seen)
 
 -- a function writes one of two things, and reads or writes the other
 abbrev pub Conflict : List CoreFunction → ℕ → Seen → Seen → Type 0
-Conflict functions g one two = (Uses functions g (usage true one) × Touches functions g two) ⊎ (Touches functions g one × Uses functions g (usage true two))
+Conflict functions g one two = (Uses functions g (usage Write one) × Touches functions g two) ⊎ (Touches functions g one × Uses functions g (usage Write two))
 
 -- An argument of a call is an alias of a later one that begins at the same variable, or of the variable of the module that it begins at, where
 -- the callee conflicts on the two.

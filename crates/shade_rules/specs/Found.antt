@@ -6,12 +6,12 @@ use Rattle.shade_rules.specs.declared.aliasing.AliasPair.{AliasPair}
 use Rattle.shade_rules.specs.declared.calls.CallAlias.{CallAlias}
 use Rattle.shade_rules.specs.declared.aliasing.AliasFault.{AliasFault}
 use Rattle.shade_rules.specs.Aliases.{AreFree, IsFirstAliasIn}
-use Rattle.shade_rules.specs.Gathered.{Rows, row_at, AreUsages}
-use Rattle.shade_rules.specs.Scans.{Known, IsFirstAmong}
+use Rattle.shade_rules.specs.Gathered.{Rows, AreUsages}
+use Rattle.shade_rules.specs.Scans.{KnownAt, IsFirstAmong}
 
 -- the first alias of a statement that is a call, if there is one, and none of any other
 abbrev pub IsAliasIn : Rows → Head → Option AliasPair → Type 0
-IsAliasIn rows (calls g args) found = IsFirstAmong (Known (row_at rows g)) args found
+IsAliasIn rows (calls g args) found = IsFirstAmong (KnownAt rows g) args found
 IsAliasIn rows _ found = found ≡ None
 
 abbrev pub HasNoneAt : Rows → Standing → Type 0

@@ -1,70 +1,89 @@
 -- On the way to the proof: what statements use, by what is known of the functions that they call.
-use Rattle.std.specs.Prelude.{◌≡◌, ◌↔◌, Contains, length, ℕ, ◌+◌, ◌==◌, Bool, false, if◌then◌else◌, List, [], ◌∷◌, ◌++◌, Option, None, Some, slice_get}
-use Rattle.std.specs.List.{flat_map}
+use Rattle.std.specs.Prelude.{◌≡◌, ◌<◌, ◌⊎◌, ◌↔◌, Contains, length, ℕ, List, Option, None, Some, slice_get}
 use Rattle.shade_core.specs.declared.statement.Argument.{Argument}
 use Rattle.shade_core.specs.declared.statement.Argument.TheVariants as argument
 use Rattle.shade_core.specs.declared.statement.Base.{Base}
 use Rattle.shade_core.specs.declared.module.CoreFunction.{CoreFunction}
 use Rattle.shade_core.specs.Code.{code_of}
 use Rattle.shade_core.specs.Standing.{Standing, Head, does, calls, statements}
+use Rattle.shade_rules.specs.declared.usage.Row.{Row}
 use Rattle.shade_rules.specs.declared.usage.Seen.{Seen}
 use Rattle.shade_rules.specs.declared.usage.Seen.TheVariants.{Parameter, Variable}
-use Rattle.shade_rules.specs.declared.usage.Usage.{Usage}
-use Rattle.shade_rules.specs.Usages.{usage, usage_at, act_usages, Uses}
+use Rattle.shade_rules.specs.declared.usage.SeenSet.{SeenSet}
+use Rattle.shade_rules.specs.declared.usage.UsageKind.{UsageKind}
+use Rattle.shade_rules.specs.Sets.{HasSeen, HasUsage}
+use Rattle.shade_rules.specs.Usages.{Usage, usage, act_usages, seen_of, Uses}
 
 -- of each function, what it uses
 abbrev pub Rows : Type 0
-Rows = List (List Usage)
+Rows = List Row
 
-abbrev pub row_by : Option (List Usage) → List Usage
-row_by None = []
-row_by (Some row) = row
+abbrev pub HasBy : Option Row → Usage → Type 0
+HasBy None u = ⊥
+HasBy (Some row) u = HasUsage row u
 
-abbrev pub row_at : Rows → ℕ → List Usage
-row_at rows k = row_by (slice_get rows k)
+-- what is known of a function
+abbrev pub HasAt : Rows → ℕ → Usage → Type 0
+HasAt rows k u = HasBy (slice_get rows k) u
 
-abbrev pub is_parameter : ℕ → Seen → Bool
-is_parameter j (Parameter i) = i == j
-is_parameter j (Variable r) = false
+abbrev pub IsVariable : Seen → Type 0
+IsVariable (Variable r) = Unit {0}
+IsVariable (Parameter i) = ⊥
 
--- through a parameter, at the variable that is handed over for it
-abbrev pub handed_one : ℕ → Base → Usage → List Usage
-handed_one j base u = if is_parameter j u.target then usage_at u.writes base else []
+-- what a function does with variables of the module
+abbrev pub SeesVariable : SeenSet → Seen → Type 0
+SeesVariable set seen = IsVariable seen × HasSeen set seen
 
-abbrev pub argument_usages : List Usage → ℕ → Argument → List Usage
-argument_usages row j (argument.Pointer view) = flat_map (handed_one j view.base) row
-argument_usages row j (argument.Plain operand) = []
+abbrev pub HasVariable : Row → Usage → Type 0
+HasVariable row u = IsVariable u.target × HasUsage row u
 
-abbrev pub handed_from : List Usage → ℕ → List Argument → List Usage
-handed_from row j [] = []
-handed_from row j (arg ∷ args) = argument_usages row j arg ++ handed_from row (j + 1) args
+-- used through a parameter, at the variable that is handed over for it
+abbrev pub IsHanded : (Usage → Type 0) → ℕ → Base → Usage → Type 0
+IsHanded Known j base u = (seen_of base ≡ Some u.target) × Known (usage u.kind (Parameter j))
 
-abbrev pub variable_by : Bool → Seen → List Usage
-variable_by writes (Variable r) = usage writes (Variable r) ∷ []
-variable_by writes (Parameter i) = []
+-- the same of a read alone, or of a write
+abbrev pub IsHandedAs : Row → UsageKind → ℕ → Base → Usage → Type 0
+IsHandedAs callee kind j base u = (u.kind ≡ kind) × IsHanded (HasUsage callee) j base u
 
-abbrev pub variable_one : Usage → List Usage
-variable_one u = variable_by u.writes u.target
+abbrev pub ByArgument : (Usage → Type 0) → ℕ → Argument → Usage → Type 0
+ByArgument Known j (argument.Pointer view) u = IsHanded Known j view.base u
+ByArgument Known j (argument.Plain operand) u = ⊥
 
-abbrev pub call_usages : List Usage → List Argument → List Usage
-call_usages row args = handed_from row 0 args ++ flat_map variable_one row
+-- by one of the first arguments of a call
+pub record ByArguments (Known : Usage → Type 0) (args : List Argument) (n : ℕ) (u : Usage) : Type 0 where
+  pub number : ℕ
+  pub before : number < n
+  pub arg : Argument
+  pub at : slice_get args number ≡ Some arg
+  pub gives : ByArgument Known number arg u
 
-abbrev pub head_usages : Rows → Head → List Usage
-head_usages rows (does act) = act_usages act
-head_usages rows (calls g args) = call_usages (row_at rows g) args
-head_usages rows _ = []
+abbrev pub ByAllArguments : (Usage → Type 0) → List Argument → Usage → Type 0
+ByAllArguments Known args u = ByArguments Known args (length args) u
 
-abbrev pub standing_usages : Rows → Standing → List Usage
-standing_usages rows s = head_usages rows s.head
+-- by its arguments, or as a variable of the module
+abbrev pub CallGives : (Usage → Type 0) → List Argument → Usage → Type 0
+CallGives Known args u = ByAllArguments Known args u ⊎ (IsVariable u.target × Known u)
 
-abbrev pub function_usages : Rows → CoreFunction → List Usage
-function_usages rows f = flat_map (standing_usages rows) (statements (code_of f.body))
+abbrev pub HeadGives : (ℕ → Usage → Type 0) → Head → Usage → Type 0
+HeadGives Known (does act) u = Contains (act_usages act) u
+HeadGives Known (calls g args) u = CallGives (Known g) args u
+HeadGives Known _ u = ⊥
+
+abbrev pub ListGives : (ℕ → Usage → Type 0) → List Standing → Usage → Type 0
+ListGives Known list u = (s : Standing) × Contains list s × HeadGives Known s.head u
+
+abbrev pub FunctionGives : (ℕ → Usage → Type 0) → CoreFunction → Usage → Type 0
+FunctionGives Known f u = ListGives Known (statements (code_of f.body)) u
+
+-- exactly what statements use, by what is known of the functions that they call
+abbrev pub IsRowOf : Rows → List Standing → Row → Type 0
+IsRowOf rows list row = (u : Usage) → HasUsage row u ↔ ListGives (HasAt rows) list u
 
 -- so many functions of which nothing is known
 pub record IsUnknown (count : ℕ) (rows : Rows) : Type 0 where
   pub long : length rows ≡ count
-  pub empty : (k : ℕ) → row_at rows k ≡ []
+  pub empty : (k : ℕ) (u : Usage) → HasAt rows k u → ⊥
 
 -- exactly what each function uses
 abbrev pub AreUsages : List CoreFunction → Rows → Type 0
-AreUsages functions rows = (k : ℕ) (u : Usage) → Contains (row_at rows k) u ↔ Uses functions k u
+AreUsages functions rows = (k : ℕ) (u : Usage) → HasAt rows k u ↔ Uses functions k u

@@ -1,6 +1,6 @@
 -- What functions read and write, themselves or by the functions that they call, of what callers see: of what their pointers point to, and of the
 -- variables of the module. (This project's rule, after WGSL, "Alias Analysis".)
-use Rattle.std.specs.Prelude.{◌≡◌, ℕ, Bool, true, false, List, [], ◌∷◌, ◌++◌, Option, None, Some, slice_get, Contains}
+use Rattle.std.specs.Prelude.{◌≡◌, ℕ, List, [], ◌∷◌, ◌++◌, Option, None, Some, slice_get, Contains}
 use Rattle.shade_values.specs.declared.op.Op.{Op}
 use Rattle.shade_values.specs.declared.op.Op.TheVariants.{AtomicLoad, AtomicStore}
 use Rattle.shade_core.specs.declared.statement.Argument.{Argument}
@@ -13,10 +13,16 @@ use Rattle.shade_core.specs.Code.{Plain, Load, Store, Atomic, UniformLoad, code_
 use Rattle.shade_core.specs.Standing.{Head, does, calls, standing, statements}
 use Rattle.shade_rules.specs.declared.usage.Seen.{Seen}
 use Rattle.shade_rules.specs.declared.usage.Seen.TheVariants.{Parameter, Variable}
-use Rattle.shade_rules.specs.declared.usage.Usage.{Usage}
+use Rattle.shade_rules.specs.declared.usage.UsageKind.{UsageKind}
+use Rattle.shade_rules.specs.declared.usage.UsageKind.TheVariants.{Read, Write}
 
-abbrev pub usage : Bool → Seen → Usage
-usage writes of_ = record { writes = writes; target = of_ }
+-- a read or a write of something
+pub record Usage : Type 0 where
+  pub kind : UsageKind
+  pub target : Seen
+
+abbrev pub usage : UsageKind → Seen → Usage
+usage kind of_ = record { kind = kind; target = of_ }
 
 -- the variable that a view begins at, where callers see it
 abbrev pub seen_of : Base → Option Seen
@@ -24,24 +30,27 @@ seen_of (Local x) = None
 seen_of (Module r) = Some (Variable r)
 seen_of (Pointee i) = Some (Parameter i)
 
-abbrev pub usage_by : Bool → Option Seen → List Usage
-usage_by writes None = []
-usage_by writes (Some seen) = usage writes seen ∷ []
+abbrev pub usage_by : UsageKind → Option Seen → List Usage
+usage_by kind None = []
+usage_by kind (Some seen) = usage kind seen ∷ []
 
 -- a read or a write of it
-abbrev pub usage_at : Bool → Base → List Usage
-usage_at writes base = usage_by writes (seen_of base)
+abbrev pub usage_at : UsageKind → Base → List Usage
+usage_at kind base = usage_by kind (seen_of base)
+
+abbrev pub both_usages : Base → List Usage
+both_usages base = usage_at Read base ++ usage_at Write base
 
 -- every operation on an atomic but `atomicStore` reads, and every one but `atomicLoad` writes
 abbrev pub atomic_usages : Op → Base → List Usage
-atomic_usages AtomicLoad base = usage_at false base
-atomic_usages AtomicStore base = usage_at true base
-atomic_usages op base = usage_at false base ++ usage_at true base
+atomic_usages AtomicLoad base = usage_at Read base
+atomic_usages AtomicStore base = usage_at Write base
+atomic_usages op base = both_usages base
 
 abbrev pub act_usages : Plain → List Usage
-act_usages (Load view) = usage_at false view.base
-act_usages (UniformLoad view severity) = usage_at false view.base
-act_usages (Store view value) = usage_at true view.base
+act_usages (Load view) = usage_at Read view.base
+act_usages (UniformLoad view severity) = usage_at Read view.base
+act_usages (Store view value) = usage_at Write view.base
 act_usages (Atomic op view args) = atomic_usages op view.base
 act_usages _ = []
 
@@ -56,6 +65,6 @@ pub record StandsIn (functions : List CoreFunction) (k : ℕ) (head : Head) : Ty
 -- variables of the module that a callee uses. Statements that control never comes to count too.
 pub data Uses (functions : List CoreFunction) : ℕ → Usage → Type 0 where
   itself : {k : ℕ} {act : Plain} {u : Usage} → StandsIn functions k (does act) → Contains (act_usages act) u → Uses functions k u
-  handed : {k g j : ℕ} {args : List Argument} {view : View} {writes : Bool} {seen : Seen}
-      → StandsIn functions k (calls g args) → slice_get args j ≡ Some (Pointer view) → seen_of view.base ≡ Some seen → Uses functions g (usage writes (Parameter j)) → Uses functions k (usage writes seen)
-  below : {k g r : ℕ} {args : List Argument} {writes : Bool} → StandsIn functions k (calls g args) → Uses functions g (usage writes (Variable r)) → Uses functions k (usage writes (Variable r))
+  handed : {k g j : ℕ} {args : List Argument} {view : View} {kind : UsageKind} {seen : Seen}
+      → StandsIn functions k (calls g args) → slice_get args j ≡ Some (Pointer view) → seen_of view.base ≡ Some seen → Uses functions g (usage kind (Parameter j)) → Uses functions k (usage kind seen)
+  below : {k g r : ℕ} {args : List Argument} {kind : UsageKind} → StandsIn functions k (calls g args) → Uses functions g (usage kind (Variable r)) → Uses functions k (usage kind (Variable r))

@@ -2,10 +2,10 @@
 
 ghost use Rattle.std.specs.Prelude.{◌≡◌, ◌<◌, ◌^◌, Some, length, slice_get};
 ghost use Rattle.shade_core.specs.declared.statement.Argument.TheVariants.{Pointer};
-ghost use Rattle.shade_rules.specs.Scans.{IsFirstAmong, IsFirstFor, IsFirstLater, Known, conflicts, has as has_in, is_alias as is_alias_of, is_later as is_later_of, is_usage as is_usage_of, same_base as same_base_of, same_flag, same_seen as same_seen_of, own_variable as own_variable_of, touches as touches_in};
+ghost use Rattle.shade_rules.specs.Scans.{IsFirstAmong, IsFirstFor, IsFirstLater, Known, conflicts, is_alias as is_alias_of, is_later as is_later_of, own_variable as own_variable_of, same_base as same_base_of, touches as touches_in};
 ghost use Rattle.shade_rules.specs.declared.aliasing.AliasFault.TheVariants.{NoMemory};
 
-use crate::usage::{Seen, Usage};
+use crate::usage::{Row, Seen, UsageKind};
 use shade_base::Place;
 use shade_core::{Argument, Base, View};
 use std::alloc::AllocError;
@@ -48,16 +48,6 @@ impl From<AllocError> for AliasFault {
     }
 }
 
-fn same_seen(one: Seen, other: Seen) -> bool
-    ensures { result ≡ same_seen_of one other }
-{
-    match (one, other) {
-        (Seen::Parameter(i), Seen::Parameter(j)) => i == j,
-        (Seen::Variable(r), Seen::Variable(s)) => r == s,
-        _ => false,
-    }
-}
-
 fn same_base(one: Base, other: Base) -> bool
     ensures { result ≡ same_base_of one other }
 {
@@ -69,34 +59,22 @@ fn same_base(one: Base, other: Base) -> bool
     }
 }
 
-fn is_usage(writes: bool, seen: Seen, usage: Usage) -> bool
-    ensures { result ≡ is_usage_of writes seen usage }
-{
-    let same = if writes { usage.writes } else { !usage.writes };
-    same && same_seen(seen, usage.target)
-}
-
-fn has(row: &[Usage], writes: bool, seen: Seen) -> bool
-    ensures { result ≡ has_in row.now writes seen }
-{
-    row.iter().any(|usage| is_usage(writes, seen, *usage))
-}
-
-fn touches(row: &[Usage], seen: Seen) -> bool
+fn touches(row: &Row, seen: Seen) -> bool
     ensures { result ≡ touches_in row.now seen }
 {
-    has(row, false, seen) || has(row, true, seen)
+    row.has(UsageKind::Read, seen) || row.has(UsageKind::Write, seen)
 }
 
 /// Whether of two things one is written and the other read or written.
-fn conflict(row: &[Usage], one: Seen, two: Seen) -> bool
+fn conflict(row: &Row, one: Seen, two: Seen) -> bool
     ensures { result ≡ conflicts row.now one two }
 {
-    (has(row, true, one) && touches(row, two)) || (touches(row, one) && has(row, true, two))
+    (row.has(UsageKind::Write, one) && touches(row, two))
+        || (touches(row, one) && row.has(UsageKind::Write, two))
 }
 
 /// Whether an argument begins at a variable, and the callee conflicts on it and the parameter with a number.
-fn is_alias(row: &[Usage], number: u32, base: Base, at: u32, arg: &Argument) -> bool
+fn is_alias(row: &Row, number: u32, base: Base, at: u32, arg: &Argument) -> bool
     ensures { result ≡ is_alias_of row.now number base at arg.now }
 {
     match arg {
@@ -109,14 +87,14 @@ fn is_alias(row: &[Usage], number: u32, base: Base, at: u32, arg: &Argument) -> 
 }
 
 /// Whether it is a later argument too.
-fn is_later(row: &[Usage], number: u32, base: Base, at: u32, arg: &Argument) -> bool
+fn is_later(row: &Row, number: u32, base: Base, at: u32, arg: &Argument) -> bool
     ensures { result ≡ is_later_of row.now number base at arg.now }
 {
     at > number && is_alias(row, number, base, at, arg)
 }
 
 /// The first later argument that is an alias of one that begins at a variable.
-fn first_later(row: &[Usage], args: &[Argument], number: u32, base: Base) -> Option<u32>
+fn first_later(row: &Row, args: &[Argument], number: u32, base: Base) -> Option<u32>
     requires { length args.now < 2 ^ 32 }
     ensures { IsFirstLater row.now args.now number base result }
 {
@@ -131,7 +109,7 @@ fn first_later(row: &[Usage], args: &[Argument], number: u32, base: Base) -> Opt
 }
 
 /// The variable of the module that an argument begins at, where the callee conflicts on the two.
-fn own_variable(row: &[Usage], number: u32, base: Base) -> Option<AliasOther>
+fn own_variable(row: &Row, number: u32, base: Base) -> Option<AliasOther>
     ensures { result ≡ own_variable_of row.now number base }
 {
     match base {
@@ -146,7 +124,7 @@ fn own_variable(row: &[Usage], number: u32, base: Base) -> Option<AliasOther>
 }
 
 /// The first alias of an argument that is a pointer.
-fn first_for(row: &[Usage], args: &[Argument], number: u32, view: &View) -> Option<AliasOther>
+fn first_for(row: &Row, args: &[Argument], number: u32, view: &View) -> Option<AliasOther>
     requires few { length args.now < 2 ^ 32 }
     requires here { slice_get args.now number ≡ Some (Pointer view.now) }
     ensures { IsFirstFor row.now args.now number result }
@@ -158,7 +136,7 @@ fn first_for(row: &[Usage], args: &[Argument], number: u32, view: &View) -> Opti
 }
 
 /// The first alias of an argument.
-fn first_of(row: &[Usage], args: &[Argument], number: u32, arg: &Argument) -> Option<AliasOther>
+fn first_of(row: &Row, args: &[Argument], number: u32, arg: &Argument) -> Option<AliasOther>
     requires few { length args.now < 2 ^ 32 }
     requires here { slice_get args.now number ≡ Some arg.now }
     ensures { IsFirstFor row.now args.now number result }
@@ -170,7 +148,7 @@ fn first_of(row: &[Usage], args: &[Argument], number: u32, arg: &Argument) -> Op
 }
 
 /// The first alias of a call, by what its callee uses.
-pub fn first_alias(row: &[Usage], args: &[Argument]) -> Option<AliasPair>
+pub fn first_alias(row: &Row, args: &[Argument]) -> Option<AliasPair>
     requires { length args.now < 2 ^ 32 }
     ensures { IsFirstAmong (Known row.now) args.now result }
 {

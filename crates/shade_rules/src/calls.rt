@@ -1,6 +1,7 @@
 //! Aliases in a module.
 
-ghost use Rattle.std.specs.Prelude.{◌≡◌, ◌<◌, ◌^◌, All, IfErr, IfOk, Some, length, map, slice_get, slice_set};
+ghost use Rattle.std.specs.Prelude.{◌≡◌, ◌<◌, ◌^◌, All, IfErr, IfOk, Some, length, map, slice_get, slice_set, true};
+ghost use Rattle.std.specs.List.{list_all};
 ghost use Rattle.shade_core.specs.Code.{code_of};
 ghost use Rattle.shade_core.specs.Places.{list_places};
 ghost use Rattle.shade_core.specs.Standing.{by_itself, head_of, statements};
@@ -8,26 +9,29 @@ ghost use Rattle.shade_chains.specs.Keeps.{MakeNoCycle};
 ghost use Rattle.shade_chains.specs.Orders.{IsOrder};
 ghost use Rattle.shade_chains.specs.Tops.{rows_in};
 ghost use Rattle.shade_rules.specs.Aliases.{AreFree, IsRefused};
+ghost use Rattle.shade_rules.specs.Few.{calls_take_few, takes_few};
 ghost use Rattle.shade_rules.specs.Gathered.{AreUsages, IsUnknown};
 ghost use Rattle.shade_rules.specs.Found.{IsAliasIn, IsFirstCall, IsFoundIn};
+ghost use Rattle.shade_rules.specs.Scans.{IsFirstAmong, KnownAt};
 
 use crate::aliasing::{AliasFault, AliasPair, first_alias};
+use crate::gather::row_of_function;
 use crate::statements::{Around, add_list};
-use crate::usage::{Row, row_at, row_of_function};
+use crate::usage::Row;
 use shade_base::Place;
 use shade_chains::{order_of_calls, rows_of};
-use shade_core::{Act, CoreFunction, CoreModule, CoreStatement};
+use shade_core::{Act, Argument, CoreFunction, CoreModule, CoreStatement};
 use shade_shape::statements_of;
 use std::alloc::{AllocError, Global};
 
 /// A row for each function, of which nothing is known.
 #[tactic(auto, using(crate::proofs::RowLaws::unknown_first, crate::proofs::RowLaws::unknown_more, crate::proofs::RowLaws::unknown_all))]
 fn empty_rows(alloc: Global, count: usize) -> Result<Vec<Row>, AllocError>
-    ensures { IfOk result (λ rows. IsUnknown count (map (λ r. r.items) rows.items)) }
+    ensures { IfOk result (λ rows. IsUnknown count rows.items) }
 {
     let mut rows = Vec::with_capacity(alloc, count)?;
     for _ in 0..count {
-        rows.push(Vec::new(alloc))?;
+        rows.push(Row::new(alloc))?;
     }
     Ok(rows)
 }
@@ -35,7 +39,7 @@ fn empty_rows(alloc: Global, count: usize) -> Result<Vec<Row>, AllocError>
 /// Puts what a function uses in the place of its number.
 fn set_row(rows: &mut Vec<Row>, place: usize, row: Row)
     requires { place < length rows.old.items }
-    ensures { map (λ r. r.items) rows.new.items ≡ slice_set (map (λ r. r.items) rows.old.items) place row.items }
+    ensures { rows.new.items ≡ slice_set rows.old.items place row }
 {
     rows[place] = row;
 }
@@ -43,8 +47,9 @@ fn set_row(rows: &mut Vec<Row>, place: usize, row: Row)
 /// What each function uses, from an order in which each stands behind those that it calls.
 #[tactic(auto, using(crate::proofs::RowLaws::gathered_first, crate::proofs::RowLaws::function_within, crate::proofs::RowLaws::row_within))]
 fn usages(alloc: Global, functions: &[CoreFunction], order: &[u32]) -> Result<Vec<Row>, AllocError>
-    requires { IsOrder (rows_in functions.now) order.now }
-    ensures { IfOk result (λ rows. AreUsages functions.now (map (λ r. r.items) rows.items)) }
+    requires ordered { IsOrder (rows_in functions.now) order.now }
+    requires few { list_all calls_take_few functions.now ≡ true }
+    ensures { IfOk result (λ rows. AreUsages functions.now rows.items) }
 {
     let mut rows = empty_rows(alloc, functions.len())?;
     'functions: for number in order {
@@ -55,19 +60,23 @@ fn usages(alloc: Global, functions: &[CoreFunction], order: &[u32]) -> Result<Ve
     Ok(rows)
 }
 
-/// The first alias of a statement. A call with 2 ^ 32 arguments or more is answered as one that no memory holds.
-fn alias_of(rows: &[Row], act: &Act) -> Result<Option<AliasPair>, AllocError>
-    ensures { IfOk result (IsAliasIn (map (λ r. r.items) rows.now) (head_of act.now)) }
+/// The first alias of a call. Of a callee that is not there nothing is known.
+fn alias_of_call(rows: &[Row], function: u32, args: &[Argument]) -> Option<AliasPair>
+    requires { length args.now < 2 ^ 32 }
+    ensures { IsFirstAmong (KnownAt rows.now function) args.now result }
+{
+    let row = rows.get(function as usize)?;
+    first_alias(row, args)
+}
+
+/// The first alias of a statement.
+fn alias_of(rows: &[Row], act: &Act) -> Option<AliasPair>
+    requires { takes_few (head_of act.now) ≡ true }
+    ensures { IsAliasIn rows.now (head_of act.now) result }
 {
     match act {
-        Act::Call { function, args } => {
-            let args = args.as_slice();
-            if args.len() > u32::MAX as usize {
-                return Err(AllocError);
-            }
-            Ok(first_alias(row_at(rows, *function), args))
-        }
-        _ => Ok(None),
+        Act::Call { function, args } => alias_of_call(rows, *function, args.as_slice()),
+        _ => None,
     }
 }
 
@@ -89,17 +98,18 @@ pub struct CallAlias {
 }
 
 /// The first call of a list with an alias.
-fn first_call(rows: &[Row], listed: &[&CoreStatement]) -> Result<Option<CallAlias>, AllocError>
-    ensures { IfOk result (IsFirstCall (map (λ r. r.items) rows.now) (map (λ s. by_itself s.now) listed.now)) }
+fn first_call(rows: &[Row], listed: &[&CoreStatement]) -> Option<CallAlias>
+    requires { list_all (λ s. takes_few s.head) (map (λ s. by_itself s.now) listed.now) ≡ true }
+    ensures { IsFirstCall rows.now (map (λ s. by_itself s.now) listed.now) result }
 {
     let mut call: usize = 0;
     'listed: for statement in listed {
-        if let Some(pair) = alias_of(rows, &statement.act)? {
-            return Ok(Some(CallAlias { call, pair }));
+        if let Some(pair) = alias_of(rows, &statement.act) {
+            return Some(CallAlias { call, pair });
         }
         call += 1;
     }
-    Ok(None)
+    None
 }
 
 /// The first alias of a function, by what its callees use.
@@ -108,10 +118,11 @@ fn first_in(
     rows: &[Row],
     function: &CoreFunction,
 ) -> Result<Option<AliasFault>, AllocError>
-    ensures { IfOk result (IsFoundIn (map (λ r. r.items) rows.now) function.now) }
+    requires { calls_take_few function.now ≡ true }
+    ensures { IfOk result (IsFoundIn rows.now function.now) }
 {
     let listed = statements_of(alloc, &function.body)?;
-    let Some(found) = first_call(rows, &listed)? else {
+    let Some(found) = first_call(rows, &listed) else {
         return Ok(None);
     };
     let place = place_at(alloc, function, found.call)?;
@@ -124,14 +135,17 @@ fn first_in(
 
 /// Refuses the first call of a module by which one variable is reached in two ways, of which the callee writes by one and reads or
 /// writes by the other: by two arguments, or by an argument and as a variable of the module that it uses. Functions are taken in the
-/// order of the text, of each its statements by their numbers, of a call the arguments in their order, and of one argument later
+/// order of the text, of each its statements in structure order, of a call the arguments in their order, and of one argument later
 /// arguments before the variable.
 ///
 /// The fault tells the place of the call, the number of the argument, and that of the other argument or of the variable. Takes time in
-/// the order of the statements, of the pairs of arguments of each call and of what its callee uses, and memory for what each function
-/// uses; without it, and where a call has 2 ^ 32 arguments, the answer is `NoMemory`.
+/// the order of the statements, of the pairs of arguments of each call, and for each call of the words of its callee, of which one has
+/// 64 variables. Takes memory for each call, for what is found of each statement of one function at a time, and for each function two
+/// bits for each parameter up to the last one that it uses, and two for each variable of the module up to the last one. Without it the
+/// answer is `NoMemory`.
 pub fn aliases(alloc: Global, checked: &CoreModule) -> Result<(), AliasFault>
     requires few { length checked.now.functions < 2 ^ 32 }
+    requires few_arguments { list_all calls_take_few checked.now.functions ≡ true }
     requires acyclic { MakeNoCycle checked.now }
     ensures accepted { IfOk result (λ _. All (AreFree checked.now.functions) checked.now.functions) }
     ensures refused { IfErr result (IsRefused checked.now.functions) }

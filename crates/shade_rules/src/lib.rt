@@ -7,13 +7,17 @@
 mod aliasing;
 mod calls;
 mod fault;
+mod few;
 mod functions;
+mod gather;
 mod law;
+mod number_set;
 mod statements;
 mod usage;
 
 pub use aliasing::{AliasFault, AliasOther};
 pub use calls::aliases;
 pub use fault::BehaviourFault;
+pub use few::calls_take_few;
 pub use functions::behaviours;
 pub use law::{one_alias, one_fault};

@@ -1,19 +1,16 @@
-//! What statements read and write of what callers see.
+//! What functions read and write of what callers see, as sets.
 
-ghost use Rattle.std.specs.Prelude.{◌≡◌, ◌++◌, ◌↔◌, map, Contains, IfOk, OnOk};
-ghost use Rattle.std.specs.List.{flat_map};
-ghost use Rattle.shade_core.specs.Standing.{by_itself, head_of};
-ghost use Rattle.shade_rules.specs.Usages.{atomic_usages, seen_of as seen_at, usage_at};
-ghost use Rattle.shade_rules.specs.Gathered.{argument_usages, call_usages, function_usages, handed_from, handed_one, head_usages, is_parameter as is_parameter_of, row_at as row_of, standing_usages, variable_one};
-ghost use Rattle.shade_rules.specs.declared.usage.Usage.{Usage as TheUsage};
+ghost use Rattle.std.specs.Prelude.{◌≡◌, OnOk};
+ghost use Rattle.shade_rules.specs.Gathered.{HasVariable, SeesVariable};
+ghost use Rattle.shade_rules.specs.Sets.{Adds, AddsSeen, HasSeen, HasUsage, has as has_in, has_seen};
+ghost use Rattle.shade_rules.specs.Usages.{Usage, usage};
+ghost use Rattle.shade_rules.specs.declared.usage.Seen.{Seen as AnySeen};
 
-use shade_core::{Act, Argument, Base, CoreFunction, CoreStatement};
-use shade_shape::{Listed, statements_of};
-use shade_values::Op;
+use crate::number_set::NumberSet;
 use std::alloc::{AllocError, Global};
 
 /// What a caller sees of a function.
-#[derive(Clone, Copy, Debug, PartialEq, Eq, PartialOrd, Ord)]
+#[derive(Clone, Copy, Debug, PartialEq, Eq)]
 pub enum Seen {
     /// What the pointer points to that stands for the parameter with this number.
     Parameter(u32),
@@ -21,188 +18,112 @@ pub enum Seen {
     Variable(u32),
 }
 
-/// A read or a write of it.
-#[derive(Clone, Copy, Debug, PartialEq, Eq, PartialOrd, Ord)]
-pub struct Usage {
-    pub writes: bool,
-    pub target: Seen,
+/// What a function does with it.
+#[derive(Clone, Copy, Debug, PartialEq, Eq)]
+pub enum UsageKind {
+    Read,
+    Write,
+}
+
+/// What is read, or what is written.
+#[derive(Drop)]
+pub struct SeenSet {
+    parameters: NumberSet,
+    variables: NumberSet,
+}
+
+impl SeenSet {
+    fn new(alloc: Global) -> SeenSet
+        ensures { (s : AnySeen) → ¬ HasSeen result s }
+    {
+        SeenSet {
+            parameters: NumberSet::new(alloc),
+            variables: NumberSet::new(alloc),
+        }
+    }
+
+    fn contains(&self, seen: Seen) -> bool
+        ensures { result ≡ has_seen self.now seen }
+    {
+        match seen {
+            Seen::Parameter(parameter) => self.parameters.contains(parameter),
+            Seen::Variable(variable) => self.variables.contains(variable),
+        }
+    }
+
+    fn insert(&mut self, seen: Seen) -> Result<(), AllocError>
+        ensures { OnOk result (AddsSeen self.old self.new (λ s. s ≡ seen)) }
+    {
+        match seen {
+            Seen::Parameter(parameter) => {
+                self.parameters.insert(parameter)?;
+                Ok(())
+            }
+            Seen::Variable(variable) => {
+                self.variables.insert(variable)?;
+                Ok(())
+            }
+        }
+    }
+
+    fn insert_variables(&mut self, other: &SeenSet) -> Result<(), AllocError>
+        ensures { OnOk result (AddsSeen self.old self.new (SeesVariable other.now)) }
+    {
+        self.variables.insert_all(&other.variables)?;
+        Ok(())
+    }
 }
 
 /// What a function reads and writes.
-pub type Row = Vec<Usage>;
-
-fn seen_of(base: Base) -> Option<Seen>
-    ensures { result ≡ seen_at base }
-{
-    match base {
-        Base::Local(_) => None,
-        Base::Module(root) => Some(Seen::Variable(root)),
-        Base::Pointee(parameter) => Some(Seen::Parameter(parameter)),
-    }
+#[derive(Drop)]
+pub struct Row {
+    read: SeenSet,
+    written: SeenSet,
 }
 
-fn add(out: &mut Row, writes: bool, base: Base) -> Result<(), AllocError>
-    ensures { OnOk result (out.new.items ≡ out.old.items ++ usage_at writes base) }
-{
-    if let Some(target) = seen_of(base) {
-        out.push(Usage { writes, target })?;
-    }
-    Ok(())
-}
-
-fn add_atomic(out: &mut Row, op: Op, base: Base) -> Result<(), AllocError>
-    ensures { OnOk result (out.new.items ≡ out.old.items ++ atomic_usages op base) }
-{
-    match op {
-        Op::AtomicLoad => add(out, false, base),
-        Op::AtomicStore => add(out, true, base),
-        _ => {
-            add(out, false, base)?;
-            add(out, true, base)
+impl Row {
+    /// Nothing.
+    pub fn new(alloc: Global) -> Row
+        ensures { (u : Usage) → ¬ HasUsage result u }
+    {
+        Row {
+            read: SeenSet::new(alloc),
+            written: SeenSet::new(alloc),
         }
     }
-}
 
-fn is_parameter(seen: Seen, number: usize) -> bool
-    ensures { result ≡ is_parameter_of number seen }
-{
-    match seen {
-        Seen::Parameter(parameter) => parameter as usize == number,
-        Seen::Variable(_) => false,
-    }
-}
-
-/// Adds what is used through a parameter, at the variable that is handed over for it.
-fn add_one(out: &mut Row, number: usize, base: Base, used: Usage) -> Result<(), AllocError>
-    ensures { OnOk result (out.new.items ≡ out.old.items ++ handed_one number base used) }
-{
-    if is_parameter(used.target, number) {
-        return add(out, used.writes, base);
-    }
-    Ok(())
-}
-
-fn add_handed(out: &mut Row, row: &[Usage], number: usize, base: Base) -> Result<(), AllocError>
-    ensures { OnOk result (out.new.items ≡ out.old.items ++ flat_map (handed_one number base) row.now) }
-{
-    'row: for used in row {
-        add_one(out, number, base, *used)?;
-    }
-    Ok(())
-}
-
-fn add_argument(
-    out: &mut Row,
-    row: &[Usage],
-    number: usize,
-    arg: &Argument,
-) -> Result<(), AllocError>
-    ensures { OnOk result (out.new.items ≡ out.old.items ++ argument_usages row.now number arg.now) }
-{
-    match arg {
-        Argument::Pointer(view) => add_handed(out, row, number, view.base),
-        Argument::Plain(_) => Ok(()),
-    }
-}
-
-fn add_arguments(out: &mut Row, row: &[Usage], args: &[Argument]) -> Result<(), AllocError>
-    ensures { OnOk result (out.new.items ≡ out.old.items ++ handed_from row.now 0 args.now) }
-{
-    let mut number: usize = 0;
-    'arguments: for arg in args {
-        add_argument(out, row, number, arg)?;
-        number += 1;
-    }
-    Ok(())
-}
-
-/// Adds a use of a variable of the module.
-fn add_variable(out: &mut Row, used: Usage) -> Result<(), AllocError>
-    ensures { OnOk result (out.new.items ≡ out.old.items ++ variable_one used) }
-{
-    match used.target {
-        Seen::Variable(_) => {
-            out.push(used)?;
-            Ok(())
+    /// Whether something is read, or written.
+    pub fn has(&self, kind: UsageKind, seen: Seen) -> bool
+        ensures { result ≡ has_in self.now kind seen }
+    {
+        match kind {
+            UsageKind::Read => self.read.contains(seen),
+            UsageKind::Write => self.written.contains(seen),
         }
-        Seen::Parameter(_) => Ok(()),
     }
-}
 
-fn add_variables(out: &mut Row, row: &[Usage]) -> Result<(), AllocError>
-    ensures { OnOk result (out.new.items ≡ out.old.items ++ flat_map variable_one row.now) }
-{
-    'row: for used in row {
-        add_variable(out, *used)?;
+    /// Adds a read or a write of something.
+    pub fn insert(&mut self, kind: UsageKind, seen: Seen) -> Result<(), AllocError>
+        ensures { OnOk result (Adds self.old self.new (λ u. u ≡ usage kind seen)) }
+    {
+        match kind {
+            UsageKind::Read => {
+                self.read.insert(seen)?;
+                Ok(())
+            }
+            UsageKind::Write => {
+                self.written.insert(seen)?;
+                Ok(())
+            }
+        }
     }
-    Ok(())
-}
 
-fn add_call(out: &mut Row, row: &[Usage], args: &[Argument]) -> Result<(), AllocError>
-    ensures { OnOk result (out.new.items ≡ out.old.items ++ call_usages row.now args.now) }
-{
-    add_arguments(out, row, args)?;
-    add_variables(out, row)
-}
-
-/// What the function with a number uses.
-pub fn row_at(rows: &[Row], number: u32) -> &[Usage]
-    ensures { result.now ≡ row_of (map (λ r. r.items) rows.now) number }
-{
-    match rows.get(number as usize) {
-        Some(row) => row.as_slice(),
-        None => &[],
+    /// Adds what another function does with variables of the module.
+    pub fn insert_variables(&mut self, other: &Row) -> Result<(), AllocError>
+        ensures { OnOk result (Adds self.old self.new (HasVariable other.now)) }
+    {
+        self.read.insert_variables(&other.read)?;
+        self.written.insert_variables(&other.written)?;
+        Ok(())
     }
-}
-
-fn add_act(out: &mut Row, rows: &[Row], act: &Act) -> Result<(), AllocError>
-    ensures { OnOk result (out.new.items ≡ out.old.items ++ head_usages (map (λ r. r.items) rows.now) (head_of act.now)) }
-{
-    match act {
-        Act::Load { view } => add(out, false, view.base),
-        Act::UniformLoad { view, .. } => add(out, false, view.base),
-        Act::Store { view, .. } => add(out, true, view.base),
-        Act::Atomic { op, view, .. } => add_atomic(out, *op, view.base),
-        Act::Call { function, args } => add_call(out, row_at(rows, *function), args.as_slice()),
-        _ => Ok(()),
-    }
-}
-
-fn add_statement(out: &mut Row, rows: &[Row], statement: &CoreStatement) -> Result<(), AllocError>
-    ensures { OnOk result (out.new.items ≡ out.old.items ++ standing_usages (map (λ r. r.items) rows.now) (by_itself statement.now)) }
-{
-    add_act(out, rows, &statement.act)
-}
-
-fn gather(alloc: Global, rows: &[Row], listed: &[&CoreStatement]) -> Result<Row, AllocError>
-    ensures { IfOk result (λ row. row.items ≡ flat_map (standing_usages (map (λ r. r.items) rows.now)) (map (λ s. by_itself s.now) listed.now)) }
-{
-    let mut out = Vec::new(alloc);
-    'listed: for statement in listed {
-        add_statement(&mut out, rows, *statement)?;
-    }
-    Ok(out)
-}
-
-/// The same, each once.
-fn distinct(row: Row) -> Row
-    ensures { (u : TheUsage) → Contains result.items u ↔ Contains row.items u }
-{
-    let mut sorted = row;
-    sorted.sort_unstable();
-    sorted.dedup();
-    sorted
-}
-
-/// What a function uses, by what is known of those that it calls.
-pub fn row_of_function(
-    alloc: Global,
-    rows: &[Row],
-    function: &CoreFunction,
-) -> Result<Row, AllocError>
-    ensures { IfOk result (λ row. (u : TheUsage) → Contains row.items u ↔ Contains (function_usages (map (λ r. r.items) rows.now) function.now) u) }
-{
-    let listed = statements_of(alloc, &function.body)?;
-    let row = gather(alloc, rows, &listed)?;
-    Ok(distinct(row))
 }

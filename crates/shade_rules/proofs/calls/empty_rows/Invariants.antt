@@ -1,6 +1,5 @@
-use Rattle.std.proofs.Common.{map}
 use Rattle.shade_rules.specs.Gathered.{IsUnknown}
 use Rattle.shade_rules.proofs.calls.empty_rows.Given as goal
 
 abbrev pub invariant-loop : goal.invariant-loop
-invariant-loop l = IsUnknown l.counter (map (λ r. r.items) l.rows.items)
+invariant-loop l = IsUnknown l.counter l.rows.items

@@ -7,5 +7,5 @@ use Rattle.shade_rules.proofs.calls.first_call.Given as goal
 abbrev pub invariant-listed : goal.invariant-listed
 invariant-listed l = record {
   place : l.call ≡ l.statement-index;
-  none : All (HasNoneAt (map (λ r. r.items) l.rows)) (take l.statement-index (map (λ s. by_itself s.now) l.listed));
+  none : All (HasNoneAt l.rows) (take l.statement-index (map (λ s. by_itself s.now) l.listed));
 }
