@@ -95,8 +95,7 @@ fn add_row(rows: &mut Vec<Items<Behaviour>>, row: Items<Behaviour>) -> Result<()
 }
 
 /// Gives the behaviour of each statement of a module, or the first fault: functions are taken in the order of the text, and of each
-/// its statements by their numbers, and then its end. Statements stand in structure order, in which their numbers are; of two
-/// faults of one loop that it goes on nowhere comes first.
+/// its statements in structure order, and then its end; of two faults of one loop that it goes on nowhere comes first.
 ///
 /// Each behaviour is found once, in one walk: this takes time in the order of the statements, and memory for each of them; without
 /// it the answer is `NoMemory`.

@@ -32,6 +32,12 @@ enum Body {
     ContinueInSwitch,
     /// `if (c) { break; } loop { }`
     BreakFirst,
+    /// `if (c) { break; }`
+    OpenBreak,
+    /// `loop { break; continuing { break; } }`
+    BreakAtEnd,
+    /// `loop { continuing { break if c; } }`
+    LeftAtEnd,
 }
 
 const PASSES_OR_BREAKS: Behaviour = Behaviour {
@@ -67,6 +73,7 @@ const SETS: &[(Body, &[Behaviour])] = &[
         ],
     ),
     (Body::Open, &[PASSES_OR_RETURNS, Behaviour::RETURN]),
+    (Body::LeftAtEnd, &[Behaviour::NEXT]),
 ];
 
 const FIRST: Place = Place {
@@ -93,6 +100,7 @@ const FAULTS: &[(Body, BehaviourFault)] = &[
     (Body::ContinueAtEnd, BehaviourFault::Empty(FIRST)),
     (Body::ContinueInSwitch, BehaviourFault::Escapes(SECOND)),
     (Body::BreakFirst, BehaviourFault::Escapes(SECOND)),
+    (Body::BreakAtEnd, BehaviourFault::ContinuingLeaves(FIRST)),
 ];
 
 type List = Items<CoreStatement>;
@@ -131,6 +139,21 @@ fn add_loop(list: &mut List, number: u32, body: List, continuing: List) -> Resul
         body,
         continuing,
         leave,
+    };
+    add(list, number, act)
+}
+
+/// Adds `loop { .. continuing { break if c; } }`.
+fn add_left_loop(
+    alloc: Global,
+    list: &mut List,
+    number: u32,
+    body: List,
+) -> Result<(), AllocError> {
+    let act = Act::Loop {
+        body,
+        continuing: Items::new(alloc),
+        leave: Some(Operand::Param(0)),
     };
     add(list, number, act)
 }
@@ -177,12 +200,7 @@ fn switch_in_loop(alloc: Global) -> Result<List, AllocError> {
     let breaks = jump(alloc, 2, Act::Break)?;
     add_switch(alloc, &mut body, 1, Some(breaks), returns(alloc, 3)?)?;
     let mut list = Items::new(alloc);
-    let act = Act::Loop {
-        body,
-        continuing: Items::new(alloc),
-        leave: Some(Operand::Param(0)),
-    };
-    add(&mut list, 0, act)?;
+    add_left_loop(alloc, &mut list, 0, body)?;
     add(&mut list, 4, Act::Return { value: None })?;
     Ok(list)
 }
@@ -220,6 +238,8 @@ fn body_of(alloc: Global, body: Body) -> Result<List, AllocError> {
         Body::TwoLoops => return two_loops(alloc),
         Body::BreakFirst => return break_first(alloc),
         Body::Open => add_if(alloc, &mut list, 0, returns(alloc, 1)?)?,
+        Body::OpenBreak => add_if(alloc, &mut list, 0, jump(alloc, 1, Act::Break)?)?,
+        Body::LeftAtEnd => add_left_loop(alloc, &mut list, 0, Items::new(alloc))?,
         Body::NeverReached => {
             add(&mut list, 0, Act::Return { value: None })?;
             add(&mut list, 1, Act::Break)?;
@@ -227,6 +247,10 @@ fn body_of(alloc: Global, body: Body) -> Result<List, AllocError> {
         Body::ReturnAtEnd => {
             let inside = jump(alloc, 1, Act::Break)?;
             add_loop(&mut list, 0, inside, returns(alloc, 2)?)?;
+        }
+        Body::BreakAtEnd => {
+            let inside = jump(alloc, 1, Act::Break)?;
+            add_loop(&mut list, 0, inside, jump(alloc, 2, Act::Break)?)?;
         }
         Body::ContinueAtEnd => {
             let continuing = jump(alloc, 1, Act::Continue)?;
@@ -299,6 +323,8 @@ fn refused_bodies(rt: HostRuntime) -> Result<(), Fail> {
     }
     let told = fault_of(alloc, &[Body::Open], Some(TypeId(0)))?;
     assert_eq!(rt; told, Some(BehaviourFault::NoReturn(NAME)));
+    let told = fault_of(alloc, &[Body::OpenBreak], Some(TypeId(0)))?;
+    assert_eq!(rt; told, Some(BehaviourFault::Escapes(SECOND)));
     let bodies = [Body::LeftLoop, Body::NeverReached, Body::TwoLoops];
     let told = fault_of(alloc, &bodies, None)?;
     assert_eq!(rt; told, Some(BehaviourFault::Escapes(SECOND)));
