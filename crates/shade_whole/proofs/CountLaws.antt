@@ -1,6 +1,7 @@
 -- What the shape of a module gives of calls and of numbers.
-use Rattle.std.proofs.Common.{◌≡◌, refl, sym, ap, ◌∙◌, ℕ, ◌+◌, ◌<◌, ◌≤◌, Bool, true, false, ◌&&◌, List, [], ◌∷◌, ◌++◌, length, Option, inl, inr, arith, true≢false}
-use Rattle.std.specs.Prelude.{◌==◌}
+use Rattle.std.proofs.Common.{◌≡◌, refl, sym, ap, ◌∙◌, ℕ, ◌+◌, ◌<◌, ◌≤◌, Bool, true, false, ◌&&◌, List, [], ◌∷◌, ◌++◌, length, Option, Some, suc, inl, inr, arith, true≢false}
+use Rattle.std.specs.Prelude.{◌==◌, slice_get}
+use Rattle.std.specs.List.{list_all}
 use Rattle.std.proofs.lemmas.Bool.{le-leb}
 use Rattle.std.proofs.lemmas.Bool.Decides.{eqb_tells}
 use Rattle.shade_values.specs.declared.types.ShadeType.{ShadeType}
@@ -14,10 +15,8 @@ use Rattle.shade_core.specs.Views.{ValueTypes}
 use Rattle.shade_core.specs.Fits.{Fits, AllFit, ArgumentsFit}
 use Rattle.shade_core.specs.HasShape.{HasShape}
 use Rattle.shade_flow.specs.Counted.{is_small, are_few, are_counted}
+use Rattle.shade_rules.specs.Few.{takes_few, calls_take_few}
 use Rattle.shade_whole.specs.Laws.{CallsHaveOrder, FunctionsAreCounted}
-
-pub ordered : CallsHaveOrder
-ordered shader shape = record { few = shape.few_functions; acyclic = shape.acyclic }
 
 and_one : (a b : Bool) → (a && b) ≡ true → a ≡ true
 and_one true b e = refl
@@ -32,13 +31,9 @@ and_both a b e f = ap (λ x. x && b) e ∙ f
 
 -- ---- statements with small numbers, and calls of few arguments
 
-abbrev HasFewArguments : Head → Type 0
-HasFewArguments (calls g args) = are_few args ≡ true
-HasFewArguments _ = Unit {0}
-
 record IsSmall (s : Standing) : Type 0 where
   pub number : is_small s.number ≡ true
-  pub arguments : HasFewArguments s.head
+  pub arguments : takes_few s.head ≡ true
 
 abbrev AreSmall : List Standing → Type 0
 AreSmall [] = Unit {0}
@@ -87,11 +82,16 @@ module _ (shader : CoreModule) (shape : HasShape shader) (f : CoreFunction) wher
   as_long values (arg ∷ args) [] h = absurd h
   as_long values [] (param ∷ params) h = absurd h
 
-  few_arguments : (values : ValueTypes) (head : Head) (result : Option ShadeType) → Fits shader f values head result → HasFewArguments head
+  few_arguments : (values : ValueTypes) (head : Head) (result : Option ShadeType) → Fits shader f values head result → takes_few head ≡ true
   few_arguments values (calls g args) result fits =
       let most : length fits.0.params ≤ 255 = (shape.limits.functions g fits.0 fits.1).params in
       le-leb (length args) 4294967295 (omega (arith, most, as_long values args fits.0.params fits.3))
-  few_arguments values _ result fits = tt
+  few_arguments values _ result fits = refl
+
+  all_take_few : (before all : ValueTypes) (list : List Standing) → AllFit shader f before list all → list_all (λ s. takes_few s.head) list ≡ true
+  all_take_few before all [] fit = refl
+  all_take_few before all (s ∷ list) fit =
+      and_both (takes_few s.head) (list_all (λ (r : Standing). takes_few r.head) list) (few_arguments before s.head fit.0 fit.1) (all_take_few (before ++ fit.0 ∷ []) all list fit.2)
 
   small_number : (n m : ℕ) → (m == n) ≡ true → n < 2147483647 → is_small m ≡ true
   small_number n m e lt = elim (eqb_tells m n) [
@@ -108,6 +108,20 @@ module _ (shader : CoreModule) (shape : HasShape shader) (f : CoreFunction) wher
     },
     all_small (n + 1) (before ++ fit.0 ∷ []) all list (and_two (s.number == n) (are_numbered (n + 1) list) numbered) (omega (arith, few)) fit.2,
   )
+
+each_function : (p : CoreFunction → Bool) (list : List CoreFunction) → ((k : ℕ) (f : CoreFunction) → slice_get list k ≡ Some f → p f ≡ true) → list_all p list ≡ true
+each_function p [] h = refl
+each_function p (f ∷ list) h = and_both (p f) (list_all p list) (h 0 f refl) (each_function p list (λ k g at. h (suc k) g at))
+
+pub ordered : CallsHaveOrder
+ordered shader shape = record {
+  few = shape.few_functions;
+  few_arguments = each_function calls_take_few shader.functions takes;
+  acyclic = shape.acyclic;
+}
+  where
+    takes : (k : ℕ) (f : CoreFunction) → slice_get shader.functions k ≡ Some f → calls_take_few f ≡ true
+    takes k f at = let body = shape.bodies k f at in all_take_few shader shape f [] (shape.values k) (statements (code_of f.body)) body.typed.fit
 
 pub counted : FunctionsAreCounted
 counted shader shape k f at few =

@@ -1,5 +1,6 @@
 -- What the shape of a module gives the layers behind it, where its functions have rules there.
 use Rattle.std.specs.Prelude.{◌≡◌, ℕ, ◌<◌, ◌^◌, true, Some, IsSome, length, slice_get}
+use Rattle.std.specs.List.{list_all}
 use Rattle.shade_core.specs.declared.module.CoreFunction.{CoreFunction}
 use Rattle.shade_core.specs.declared.module.CoreModule.{CoreModule}
 use Rattle.shade_core.specs.HasShape.{HasShape}
@@ -9,6 +10,7 @@ use Rattle.shade_core.specs.Standing.{AreNumbered, statements}
 use Rattle.shade_chains.specs.Keeps.{MakeNoCycle}
 use Rattle.shade_flow.specs.Counted.{is_counted}
 use Rattle.shade_group.specs.Group.{IsRunnable}
+use Rattle.shade_rules.specs.Few.{calls_take_few}
 
 -- The statements of a module of the shape are numbered in structure order.
 abbrev pub StatementsAreNumbered : Type 0
@@ -26,6 +28,7 @@ EntriesRun = (shader : CoreModule) → HasShape shader → (k : ℕ) (f : CoreFu
 -- what is asked of a module before its calls are looked at for aliases
 pub record HasOrder (shader : CoreModule) : Type 0 where
   pub few : length shader.functions < 2 ^ 32
+  pub few_arguments : list_all calls_take_few shader.functions ≡ true
   pub acyclic : MakeNoCycle shader
 
 -- The calls of each module of the shape may be looked at.

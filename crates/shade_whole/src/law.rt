@@ -17,7 +17,8 @@ pub fn entries_run()
     entries_start();
 }
 
-/// The calls of a module of the shape make no cycle, and it has fewer than 2^32 functions, as is asked before aliases are looked for.
+/// The calls of a module of the shape make no cycle and have fewer than 2^32 arguments each, and it has fewer than 2^32 functions, as is
+/// asked before aliases are looked for.
 pub fn calls_have_order()
     ensures { CallsHaveOrder }
 {}
