@@ -116,6 +116,7 @@ module _ (one : OperatesInOneWay) (converts : ConvertsInOneWay) (uses : List (Op
   declared_one : (node : ℕ) (place : Place) (t : Task) (r s : Answer) → DeclaredOf k node place t r → DeclaredOf k node place t s → r ≡ s
   declared_one node place (task.IsType wanted) r s p q = both p q
   declared_one node place (task.Alias ty) r s p q = both p q
+  declared_one node place task.Result r s p q = both p q
   declared_one node place (task.Constant ty value) r s p q = constness_one (value_of_node k.facts value.node) ty value r s p q
   declared_one node place (task.Returns function value) r s p q = returned_one (result_of (what_in k.facts function)) value place r s p q
   declared_one node place t r s p q = absurd p
@@ -146,6 +147,7 @@ module _ (one : OperatesInOneWay) (converts : ConvertsInOneWay) (uses : List (Op
   rule_one node place idle (task.Decrement at) r s p q = both p q
   rule_one node place idle (task.IsType wanted) r s p q = declared_one node place (task.IsType wanted) r s p q
   rule_one node place idle (task.Alias ty) r s p q = declared_one node place (task.Alias ty) r s p q
+  rule_one node place idle task.Result r s p q = declared_one node place task.Result r s p q
   rule_one node place idle (task.Constant ty value) r s p q = declared_one node place (task.Constant ty value) r s p q
   rule_one node place idle (task.Returns function value) r s p q = declared_one node place (task.Returns function value) r s p q
   rule_one node place idle task.Discards r s p q = profile_one place task.Discards r s p q

@@ -55,6 +55,7 @@ module _ (uses : List (Option Meaning)) (names : List (List ℕ)) where
     rule_asked node place idle (task.Decrement at) r p = refl
     rule_asked node place idle (task.IsType wanted) r p = refl
     rule_asked node place idle (task.Alias ty) r p = refl
+    rule_asked node place idle task.Result r p = refl
     rule_asked node place idle (task.Constant ty value) r p = refl
     rule_asked node place idle (task.Returns function value) r p = refl
     rule_asked node place idle task.Discards r p = refl

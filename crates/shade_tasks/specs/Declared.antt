@@ -1,10 +1,13 @@
--- Rule: types where one is asked, aliases, constants and `return`. (WGSL, "Types", "Array Types", "Type Aliases", "const Declarations", "Return
--- Statement".)
+-- Rule: types where one is asked, aliases, types of results, constants and `return`. (WGSL, "Types", "Array Types", "Type Aliases", "const
+-- Declarations", "Functions", "Return Statement".)
 use Rattle.std.specs.Prelude.{◌≡◌, ℕ, Bool, true, false, ◌&&◌, Option, None, Some, slice_get, Result, Ok, Err, if◌then◌else◌}
 use Rattle.shade_base.specs.declared.place.Place.{Place}
 use Rattle.shade_values.specs.declared.types.ShadeType.{ShadeType}
 use Rattle.shade_values.specs.declared.types.TypeId.{TypeId}
 use Rattle.shade_values.specs.declared.value.Value.{Value}
+use Rattle.shade_values.specs.Layouts.{is_loadable}
+use Rattle.shade_values.specs.Shape.{shape_of}
+use Rattle.shade_values.specs.Table.{Table}
 use Rattle.shade_evaluate.specs.declared.fault.ConstFault.TheVariants as const_fault
 use Rattle.shade_known.specs.declared.known.Found.TheVariants as found
 use Rattle.shade_known.specs.declared.known.Known.{Known}
@@ -62,6 +65,16 @@ as_type k wanted n place = type_by k wanted (written_type k n) (is_bad_type (wha
 
 abbrev pub alias_found : Known → Operand → Answer
 alias_found k ty = Ok (declared_by k.types (what_in k.facts ty.node))
+
+-- ---- results
+
+abbrev pub is_result_type : Table → Option What → Bool
+is_result_type t (Some (what.Type id bad)) = is_loadable (shape_of t id)
+is_result_type t _ = false
+
+-- the type of a function's result, which is loadable
+abbrev pub as_result : Known → ℕ → Place → Answer
+as_result k n place = if is_result_type k.types (what_in k.facts n) then Ok found.Nothing else breaks place rule.Signature
 
 -- ---- constants
 

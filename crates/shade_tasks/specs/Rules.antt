@@ -1,6 +1,6 @@
 -- Rule: what each step finds of its node, by what is known before it, or the fault: each step of an expression but for calls of arrays, of structs
 -- and of functions of the text; of statements conditions, assertions, targets, what changes them, `return` and `discard`; of declarations types,
--- aliases, constants, and what is out of the profile.
+-- aliases, types of results, constants, and what is out of the profile.
 use Rattle.std.specs.Prelude.{◌≡◌, ℕ, Bool, true, false, List, Option, None, Some, is_some, codes, Ok, slice_get}
 use Rattle.shade_base.specs.declared.place.Place.{Place}
 use Rattle.shade_overload.specs.declared.builtin.Builtin.{Builtin}
@@ -21,7 +21,7 @@ use Rattle.shade_calls.specs.Names.{name_answer}
 use Rattle.shade_calls.specs.Templates.{template_answer}
 use Rattle.shade_tasks.specs.Arguments.{as_argument}
 use Rattle.shade_tasks.specs.Compounds.{IsCompound}
-use Rattle.shade_tasks.specs.Declared.{as_type, alias_found, IsConstant, result_of, IsReturned}
+use Rattle.shade_tasks.specs.Declared.{as_type, alias_found, as_result, IsConstant, result_of, IsReturned}
 use Rattle.shade_tasks.specs.Profile.{out, required, enabled, text_by}
 
 -- a call whose callee is a row of the table
@@ -58,10 +58,11 @@ StatementOf k node place (task.Increment at) r = r ≡ as_stepped k (record { no
 StatementOf k node place (task.Decrement at) r = r ≡ as_stepped k (record { node = node; place = place }) at
 StatementOf k node place _ r = ⊥
 
--- types, aliases, constants and `return`
+-- types, aliases, types of results, constants and `return`
 abbrev pub DeclaredOf : Known → ℕ → Place → Task → Answer → Type 0
 DeclaredOf k node place (task.IsType wanted) r = r ≡ as_type k wanted node place
 DeclaredOf k node place (task.Alias ty) r = r ≡ alias_found k ty
+DeclaredOf k node place task.Result r = r ≡ as_result k node place
 DeclaredOf k node place (task.Constant ty value) r = IsConstant k ty value r
 DeclaredOf k node place (task.Returns function value) r = IsReturned k (result_of (what_in k.facts function)) value place r
 DeclaredOf k node place _ r = ⊥
@@ -94,6 +95,7 @@ RuleOf uses names k node place idle (task.Increment at) r = StatementOf k node p
 RuleOf uses names k node place idle (task.Decrement at) r = StatementOf k node place (task.Decrement at) r
 RuleOf uses names k node place idle (task.IsType wanted) r = DeclaredOf k node place (task.IsType wanted) r
 RuleOf uses names k node place idle (task.Alias ty) r = DeclaredOf k node place (task.Alias ty) r
+RuleOf uses names k node place idle task.Result r = DeclaredOf k node place task.Result r
 RuleOf uses names k node place idle (task.Constant ty value) r = DeclaredOf k node place (task.Constant ty value) r
 RuleOf uses names k node place idle (task.Returns function value) r = DeclaredOf k node place (task.Returns function value) r
 RuleOf uses names k node place idle task.Discards r = ProfileOf names place task.Discards r
@@ -130,6 +132,7 @@ is_asked k (task.Increment at) = true
 is_asked k (task.Decrement at) = true
 is_asked k (task.IsType wanted) = true
 is_asked k (task.Alias ty) = true
+is_asked k task.Result = true
 is_asked k (task.Constant ty value) = true
 is_asked k (task.Returns function value) = true
 is_asked k task.Discards = true

@@ -1,4 +1,4 @@
-//! Types where one is asked, aliases, constants and `return`.
+//! Types where one is asked, aliases, types of results, constants and `return`.
 
 ghost use Rattle.std.specs.Prelude.{◌≡◌, IfOk, IfSome};
 ghost use Rattle.shade_values.specs.Sound.{IsOf};
@@ -7,7 +7,7 @@ ghost use Rattle.shade_known.specs.Answers.{Answers};
 ghost use Rattle.shade_known.specs.Keeps.{IsFoundOf};
 ghost use Rattle.shade_known.specs.Lookups.{what_in};
 ghost use Rattle.shade_typing.specs.Assignments.{IsConverted, checked};
-ghost use Rattle.shade_tasks.specs.Declared.{IsBound, IsConstant, IsReturned, access_by, alias_found, as_type, bound, in_storage, is_told, may_be_unsized, may_stand, result_of};
+ghost use Rattle.shade_tasks.specs.Declared.{IsBound, IsConstant, IsReturned, access_by, alias_found, as_result, as_type, bound, in_storage, is_result_type, is_told, may_be_unsized, may_stand, result_of};
 
 use crate::arguments::{is_bad_type, is_storage};
 use crate::compounds::breaks;
@@ -15,7 +15,8 @@ use shade_base::Place;
 use shade_calls::{declared, is_runtime_array, is_runtime_sized, written_type};
 use shade_evaluate::ConstFault;
 use shade_known::{
-    Found, Known, Operand, TypeRule, TypingFault, What, converted, type_by_id, value_at, what_at,
+    Found, Known, Operand, TypeRule, TypingFault, What, converted, is_loadable, type_by_id,
+    value_at, what_at,
 };
 use shade_steps::TypeRole;
 use shade_typing::same_as;
@@ -100,6 +101,27 @@ pub(crate) fn alias(alloc: Global, known: &Known, ty: Operand) -> Result<Found, 
     ensures of { IfOk result (λ f. IsFoundOf known.now.types f) }
 {
     Ok(declared(alloc, known, ty.node)?)
+}
+
+fn is_result_type(known: &Known, node: u32) -> bool
+    ensures { result ≡ is_result_type known.now.types (what_in known.now.facts node) }
+{
+    match what_at(&known.facts, node) {
+        Some(What::Type { ty, .. }) => is_loadable(&known.types, *ty),
+        _ => false,
+    }
+}
+
+/// Whether a node may be the type of a function's result: the rule of signatures fails at its place where it is no type that is loadable. Takes
+/// no memory.
+pub(crate) fn used_as_result(known: &Known, node: u32, place: Place) -> Result<Found, TypingFault>
+    ensures answer { result ≡ as_result known.now node place }
+    ensures of { IfOk result (λ f. IsFoundOf known.now.types f) }
+{
+    if is_result_type(known, node) {
+        return Ok(Found::Nothing);
+    }
+    Err(breaks(place, TypeRule::Signature))
 }
 
 fn bound(ty: ShadeType, answer: Result<Option<Value>, TypingFault>) -> Result<Found, TypingFault>

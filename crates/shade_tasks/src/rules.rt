@@ -10,7 +10,7 @@ ghost use Rattle.shade_tasks.specs.Rules.{DeclaredOf, IsCall, NamedOf, Operation
 
 use crate::arguments::listed;
 use crate::compounds::compound;
-use crate::declared::{alias, constant, returned, used_as_type};
+use crate::declared::{alias, constant, returned, used_as_result, used_as_type};
 use crate::profile::{enabled, required};
 use shade_ast::Names;
 use shade_base::Place;
@@ -25,7 +25,7 @@ use shade_typing::{
 use std::alloc::Global;
 
 /// Tells whether a task is asked here: of an expression, but for calls of arrays, structs and functions of the text; of a condition, an
-/// assertion, a target or what changes it, or a `return`; of a type, an alias or a constant; or what is out of the profile. Takes no memory.
+/// assertion, a target or what changes it, or a `return`; of a type, an alias, the type of a result or a constant; or what is out of the profile. Takes no memory.
 pub fn is_asked(known: &Known, task: &Task) -> bool
     ensures { result ≡ is_asked known.now task.now }
 {
@@ -52,6 +52,7 @@ pub fn is_asked(known: &Known, task: &Task) -> bool
         | Task::Decrement { .. }
         | Task::IsType(_)
         | Task::Alias(_)
+        | Task::Result
         | Task::Constant { .. }
         | Task::Returns { .. }
         | Task::Discards
@@ -199,7 +200,7 @@ fn statement_rule(alloc: Global, known: &Known, step: &Step) -> Result<Found, Ty
     }
 }
 
-/// What a type, an alias, a constant or a `return` finds.
+/// What a type, an alias, the type of a result, a constant or a `return` finds.
 fn declared_rule(alloc: Global, known: &Known, step: &Step) -> Result<Found, TypingFault>
     ensures answer { Answers (DeclaredOf known.now step.now.node step.now.place step.now.task) result }
     ensures of { IfOk result (λ f. IsFoundOf known.now.types f) }
@@ -207,6 +208,7 @@ fn declared_rule(alloc: Global, known: &Known, step: &Step) -> Result<Found, Typ
     match &step.task {
         Task::IsType(role) => used_as_type(known, *role, step.node, step.place),
         Task::Alias(ty) => alias(alloc, known, *ty),
+        Task::Result => used_as_result(known, step.node, step.place),
         Task::Constant { ty, value } => constant(alloc, known, *ty, *value),
         Task::Returns { function, value } => {
             returned(alloc, known, *function, *value, step.place)
@@ -264,7 +266,7 @@ pub fn rule(
         Task::Index { .. } | Task::Call { .. } => {
             operation_rule(alloc, names, known, step, idle)
         }
-        Task::IsType(_) | Task::Alias(_) => declared_rule(alloc, known, step),
+        Task::IsType(_) | Task::Alias(_) | Task::Result => declared_rule(alloc, known, step),
         Task::Constant { .. } | Task::Returns { .. } => declared_rule(alloc, known, step),
         Task::Discards | Task::Override => profile_rule(alloc, names, step),
         Task::Requires(_) | Task::Enables(_) => profile_rule(alloc, names, step),
