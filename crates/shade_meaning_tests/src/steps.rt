@@ -88,7 +88,7 @@ fn asked_of(task: &Task) -> Asked {
         Task::Compound { .. } => Asked::Compound,
         Task::Increment { .. } => Asked::Increment,
         Task::Decrement { .. } => Asked::Decrement,
-        Task::Dropped => Asked::Dropped,
+        Task::Dropped { .. } => Asked::Dropped,
         Task::Constant { .. } => Asked::Constant,
         Task::Binds { .. } => Asked::Binds,
         Task::Variable(_) => Asked::Variable,

@@ -9,6 +9,8 @@ use Rattle.shade_ast.specs.declared.attr.AttrName.TheVariants as attr
 use Rattle.shade_ast.specs.declared.attr.Arguments.{Arguments}
 use Rattle.shade_ast.specs.declared.expr.Named.{Named}
 use Rattle.shade_ast.specs.declared.expr.Expr.{Expr}
+use Rattle.shade_ast.specs.declared.expr.ExprKind.{ExprKind, ExprKind-F, out-ExprKind}
+use Rattle.shade_ast.specs.declared.expr.ExprKind.TheOpen as kind
 use Rattle.shade_ast.specs.declared.stmt.Var.{Var}
 use Rattle.shade_ast.specs.declared.stmt.VarSpace.{VarSpace}
 use Rattle.shade_ast.specs.declared.stmt.Binding.{Binding}
@@ -181,13 +183,21 @@ target_steps e = steps_of None e ++ asks (node_of e) task.Target
 abbrev pub changed_steps : Expr → Es
 changed_steps e = steps_of_value None e ++ asks (node_of e) task.Target
 
+-- what a call calls
+abbrev pub callee_in : ExprKind-F ExprKind Expr → Expr → Operand
+callee_in (kind.Call callee arguments trailing) e = node_of callee
+callee_in _ e = node_of e
+
+abbrev pub callee_of : Expr → Operand
+callee_of e = callee_in (out-ExprKind e.kind) e
+
 abbrev pub update_steps : Update → Es
 update_steps (update.Assign target at value) = target_steps target ++ steps_of_value None value ++ asks (node_of target) (task.Assigns (node_of value))
 update_steps (update.Compound target operator at value) = changed_steps target ++ steps_of_value None value ++ asks (node_of target) (task.Compound operator at (node_of value))
 update_steps (update.Phony underscore at value) = steps_of_value None value
 update_steps (update.Increment target at) = changed_steps target ++ asks (node_of target) (task.Increment at)
 update_steps (update.Decrement target at) = changed_steps target ++ asks (node_of target) (task.Decrement at)
-update_steps (update.Call e) = steps_of None e ++ asks (node_of e) task.Dropped
+update_steps (update.Call e) = steps_of None e ++ asks (node_of e) (task.Dropped (callee_of e))
 
 abbrev pub simple_steps : Simple → Es
 simple_steps (simple.Var v) = var_steps level.Function v.keyword [] v
@@ -203,10 +213,14 @@ condition_steps e = value_and e task.Condition
 abbrev pub default_steps : ℕ → Place → Es
 default_steps switch place = asks (own_of switch place) task.Default
 
+-- the case value, and the `switch` by it, at its place
+abbrev pub case_steps : ℕ → Expr → Es
+case_steps switch e = steps_of_value None e ++ asks (own_of switch (node_of e).place) (task.Case (node_of e))
+
 -- of the `switch` with this node
 abbrev pub selector_steps : ℕ → Selector → Es
 selector_steps switch (selector.Default place) = default_steps switch place
-selector_steps switch (selector.Value e) = value_and e (task.Case switch)
+selector_steps switch (selector.Value e) = case_steps switch e
 
 abbrev pub leave_steps : BreakIf → Es
 leave_steps b = condition_steps b.condition

@@ -2,12 +2,12 @@
 
 ghost use Rattle.std.specs.Prelude.{◌≡◌, ◌++◌, [], None, OnOk, option_map};
 ghost use Rattle.shade_steps.specs.Steps.{steps_of, steps_of_type, steps_of_value};
-ghost use Rattle.shade_steps.specs.Statements.{access_of, asks, assert_steps, binding_parts, changed_steps, const_steps, let_steps, maybe, name_of, named_steps, node_of, simple_steps, space_of, space_steps, target_steps, update_steps, value_and, var_steps};
+ghost use Rattle.shade_steps.specs.Statements.{access_of, asks, assert_steps, binding_parts, callee_of, changed_steps, const_steps, let_steps, maybe, name_of, named_steps, node_of, simple_steps, space_of, space_steps, target_steps, update_steps, value_and, var_steps};
 
 use crate::attributes::ask;
 use crate::expressions::{add_steps, add_type, add_value, own_of};
 use crate::step::{AttrMark, Level, Step, Task, TypeRole, VarParts};
-use shade_ast::{Binding, Expr, Named, Simple, Update, Var, VarSpace};
+use shade_ast::{Binding, Expr, ExprKind, Named, Simple, Update, Var, VarSpace};
 use shade_base::Place;
 use shade_known::Operand;
 use sqlite_items::Items;
@@ -201,6 +201,16 @@ fn add_changed(alloc: Global, target: &Expr, out: &mut Items<Step>) -> Result<()
     ask(own_of(target), Task::Target, out)
 }
 
+/// What a call calls.
+fn callee_of(e: &Expr) -> Operand
+    ensures { result ≡ callee_of e.now }
+{
+    match &e.kind {
+        ExprKind::Call { callee, .. } => own_of(callee.get()),
+        _ => own_of(e),
+    }
+}
+
 /// Adds the steps of what changes a variable or calls a function.
 pub(crate) fn add_update(
     alloc: Global,
@@ -242,7 +252,8 @@ pub(crate) fn add_update(
         }
         Update::Call(e) => {
             add_steps(alloc, e, None, out)?;
-            ask(own_of(e), Task::Dropped, out)
+            let callee = callee_of(e);
+            ask(own_of(e), Task::Dropped { callee }, out)
         }
     }
 }

@@ -3,7 +3,7 @@
 ghost use Rattle.std.specs.Prelude.{◌≡◌, ◌++◌, None, OnOk, map, option_map};
 ghost use Rattle.std.specs.List.{flat_map};
 ghost use Rattle.shade_steps.specs.Steps.{steps_of_value};
-ghost use Rattle.shade_steps.specs.Statements.{arm_steps, asks, block_steps, clause_steps, clauses_steps, condition_steps, continuing_steps, default_steps, header, joined, leave_steps, maybe, node_of, otherwise_steps, range, selected_steps, selector_steps, stmt_steps};
+ghost use Rattle.shade_steps.specs.Statements.{arm_steps, asks, block_steps, case_steps, clause_steps, clauses_steps, condition_steps, continuing_steps, default_steps, header, joined, leave_steps, maybe, node_of, otherwise_steps, range, selected_steps, selector_steps, stmt_steps};
 
 use crate::attributes::{add_attrs, ask};
 use crate::expressions::{add_value, own_of};
@@ -34,6 +34,18 @@ fn add_default(switch: u32, place: Place, out: &mut Items<Step>) -> Result<(), A
     ask(own, Task::Default, out)
 }
 
+fn add_case(alloc: Global, switch: u32, e: &Expr, out: &mut Items<Step>) -> Result<(), AllocError>
+    ensures { OnOk result (out.new ≡ out.old ++ case_steps switch e.now) }
+{
+    add_value(alloc, e, None, out)?;
+    let value = own_of(e);
+    let own = Operand {
+        node: switch,
+        place: value.place,
+    };
+    ask(own, Task::Case { value }, out)
+}
+
 fn add_selector(
     alloc: Global,
     switch: u32,
@@ -44,7 +56,7 @@ fn add_selector(
 {
     match selector {
         Selector::Default(place) => add_default(switch, *place, out),
-        Selector::Value(e) => add_value_and(alloc, e, Task::Case { switch }, out),
+        Selector::Value(e) => add_case(alloc, switch, e, out),
     }
 }
 

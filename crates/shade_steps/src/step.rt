@@ -93,8 +93,10 @@ pub enum Task {
     Decrement {
         at: Place,
     },
-    /// It is a call that stands by itself as a statement.
-    Dropped,
+    /// It is a call of this that stands by itself as a statement.
+    Dropped {
+        callee: Operand,
+    },
     /// It is the name of a `const`.
     Constant {
         ty: Option<Operand>,
@@ -122,11 +124,11 @@ pub enum Task {
     Selects {
         selector: Operand,
     },
-    /// It is a value of a case of the `switch` with this node.
+    /// It is a `switch` with this case value, whose place the step has.
     Case {
-        switch: u32,
+        value: Operand,
     },
-    /// It is a `switch` with a default.
+    /// It is a `switch` with a default, whose place the step has.
     Default,
     /// It is a `switch`, and all its clauses were asked.
     Chosen,
