@@ -13,3 +13,5 @@ mod reading;
 mod scope;
 #[cfg(test)]
 mod steps;
+#[cfg(test)]
+mod switches;
