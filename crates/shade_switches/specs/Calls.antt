@@ -1,7 +1,6 @@
 -- Rule: calls as statements. (WGSL, "Function Call Statement".) A function of the text may be called so where it is not `@must_use`, and a function of
 -- atomics too; of each other call with a result that is dropped, constructors included, the rule of calls fails at its first token.
 use Rattle.std.specs.Prelude.{Bool, false, not, ◌&&◌, Option, Some, is_some, Ok, if◌then◌else◌}
-use Rattle.shade_overload.specs.declared.builtin.Builtin.{Builtin}
 use Rattle.shade_overload.specs.Patterns.{atomic}
 use Rattle.shade_known.specs.declared.known.Found.TheVariants as found
 use Rattle.shade_known.specs.declared.known.Known.{Known}
