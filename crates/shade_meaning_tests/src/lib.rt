@@ -13,5 +13,3 @@ mod reading;
 mod scope;
 #[cfg(test)]
 mod steps;
-#[cfg(test)]
-mod switches;

@@ -16,6 +16,25 @@ use std::alloc::Global;
 pub const FRONT: &str =
     "var<private> i: i32; var<private> u: u32; var<private> b: bool; var<private> v: vec3<u32>; var<workgroup> w: vec3<u32>; var<workgroup> a: atomic<u32>; var<storage> r: array<u32>; const_assert ";
 
+/// A place in a text of one line.
+pub fn place(offset: u32) -> Place {
+    Place {
+        offset,
+        line: 1,
+        column: offset.wrapping_add(1),
+    }
+}
+
+/// The tree of a text, if it has one.
+pub fn tree_of(alloc: Global, text: &str) -> Option<Tree> {
+    if text.len() > 1_048_576 {
+        return None;
+    }
+    let tokens = lex(alloc, text).ok()?;
+    let pairs = templates(alloc, &tokens).ok()?;
+    parse(alloc, &tokens, &pairs).ok()
+}
+
 /// What the tokens of a text mean, where they spell a tree.
 fn meaning(alloc: Global, tokens: &Tokens) -> Result<Scoped, ScopeFault> {
     let _text = tokens.text();
