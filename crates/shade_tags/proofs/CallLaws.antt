@@ -34,11 +34,11 @@ behind_called loops g (branch_starts {one} {two} {rest}) h = (h.0, in_three (cal
 behind_called loops g (switch_starts {parts} {rest}) h = (h.0, Contains-append_right (calls_in loops parts) (calls_in loops rest) (g, h.0) h.1)
 behind_called loops g (loop_starts {body} {continuing} {rest}) h = (h.0, in_three (calls_in (loops + 1) body) (calls_in (loops + 1) continuing) (calls_in loops rest) (g, h.0) h.1)
 
-case_called : {parts found : Code} {p : ℕ} (loops g : ℕ) → IsCase parts p found → Called found loops g → Called parts loops g
+case_called : {parts found : Code} {n p : ℕ} (loops g : ℕ) → IsCase parts n p found → Called found loops g → Called parts loops g
 case_called loops g (this_case {body} {others}) h = (h.0, Contains-append_left (calls_in loops body) (calls_in loops others) (g, h.0) h.1)
 case_called loops g (other_case {body} {others} case) h = (let r = case_called loops g case h in (r.0, Contains-append_right (calls_in loops body) (calls_in loops others) (g, r.0) r.1))
 
-within_called : {c body : Code} {p : ℕ} (loops g : ℕ) → HasPart c p body → ((l : ℕ) → Called body l g) → Called c loops g
+within_called : {c body : Code} {n p : ℕ} (loops g : ℕ) → HasPart c n p body → ((l : ℕ) → Called body l g) → Called c loops g
 within_called loops g (first_part {one} {two} {rest}) h = (let r = h loops in (r.0, in_one (calls_in loops one) (calls_in loops two) (calls_in loops rest) (g, r.0) r.1))
 within_called loops g (second_part {one} {two} {rest}) h = (let r = h loops in (r.0, in_two (calls_in loops one) (calls_in loops two) (calls_in loops rest) (g, r.0) r.1))
 within_called loops g (switch_part {parts} {rest} case) h = (let r = case_called loops g case (h loops) in (r.0, Contains-append_left (calls_in loops parts) (calls_in loops rest) (g, r.0) r.1))
@@ -49,4 +49,4 @@ within_called loops g (continuing_part {body} {continuing} {rest}) h = (let r = 
 pub analysed_called : {a b : Node} {c found : Code} (loops g : ℕ) → Analysed a c b found → ((l : ℕ) → Called found l g) → Called c loops g
 analysed_called loops g (this starts) h = h loops
 analysed_called loops g (behind starts next more) h = behind_called loops g starts (analysed_called loops g more h)
-analysed_called loops g (within starts has more) h = within_called loops g has (λ l. analysed_called l g more h)
+analysed_called loops g (within has more) h = within_called loops g has (λ l. analysed_called l g more h)

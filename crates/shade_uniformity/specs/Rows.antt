@@ -84,7 +84,7 @@ pub data GivesValue : Plain → Type 0 where
 pub data StatementNode (shader : CoreModule) (function : CoreFunction) : Code → Node → Type 0 where
   before_stands : {c rest : Code} {n : ℕ} → Starts c n rest → StatementNode shader function c (Before n)
   after_stands : {c rest : Code} {n : ℕ} → Starts c n rest → StatementNode shader function c (After n)
-  part_stands : {c rest body : Code} {n p : ℕ} → Starts c n rest → HasPart c p body → StatementNode shader function c (Part n p)
+  part_stands : {c body : Code} {n p : ℕ} → HasPart c n p body → StatementNode shader function c (Part n p)
   value_stands : {n : ℕ} {act : Plain} {rest : Code} → GivesValue act → StatementNode shader function (plain n act rest) (Value n)
   call_value_stands : {n g : ℕ} {args : List Argument} {rest : Code} {callee : CoreFunction} → slice_get shader.functions g ≡ Some callee → IsSome callee.result
       → StatementNode shader function (call n g args rest) (Value n)
@@ -129,11 +129,11 @@ pub data Row (shader : CoreModule) (function : CoreFunction) (a : Node) : Code �
   -- control
   control_before : {c rest : Code} {n : ℕ} → Starts c n rest → Row shader function a c (Before n) a
   control_after : {c rest : Code} {n : ℕ} → Starts c n rest → IsSimple c → Row shader function a c (After n) (Before n)
-  selected_part : {c rest body : Code} {n p : ℕ} {operand : Operand} → Starts c n rest → Selects c operand → HasPart c p body → Row shader function a c (Part n p) (Before n)
-  selected_by : {c rest body : Code} {n p : ℕ} {operand : Operand} {v : Node} → Starts c n rest → Selects c operand → HasPart c p body → Names operand v
+  selected_part : {c body : Code} {n p : ℕ} {operand : Operand} → Selects c operand → HasPart c n p body → Row shader function a c (Part n p) (Before n)
+  selected_by : {c body : Code} {n p : ℕ} {operand : Operand} {v : Node} → Selects c operand → HasPart c n p body → Names operand v
       → Row shader function a c (Part n p) v
-  goes_on_after : {c rest body : Code} {n p : ℕ} → Starts c n rest → HasPart c p body → goes_on (first_ways c) ≡ true → Row shader function a c (After n) (Before n)
-  selected_end : {c rest body : Code} {n p : ℕ} {operand : Operand} → Starts c n rest → Selects c operand → HasPart c p body → goes_on (first_ways c) ≡ false
+  goes_on_after : {c body : Code} {n p : ℕ} → HasPart c n p body → goes_on (first_ways c) ≡ true → Row shader function a c (After n) (Before n)
+  selected_end : {c body : Code} {n p : ℕ} {operand : Operand} → Selects c operand → HasPart c n p body → goes_on (first_ways c) ≡ false
       → Row shader function a c (After n) (end_of (Part n p) body)
   loop_begin : {n : ℕ} {body continuing rest : Code} {leave : Option Operand} → Row shader function a (loop n body continuing leave rest) (Part n 0) (Before n)
   loop_turn : {n : ℕ} {body continuing rest : Code} {leave : Option Operand} → Row shader function a (loop n body continuing leave rest) (Part n 0) (end_of (Part n 1) continuing)

@@ -30,19 +30,19 @@ first_ways done = no_way
 first_ways no_part = no_way
 first_ways (part n which keys fallback body others) = no_way
 
--- a part of a switch, by its number, and its statements
-pub data IsCase : Code → ℕ → Code → Type 0 where
-  this_case : {n which : ℕ} {keys : List ℤ} {fallback : Bool} {body others : Code} → IsCase (part n which keys fallback body others) which body
-  other_case : {n which p : ℕ} {keys : List ℤ} {fallback : Bool} {body others found : Code} → IsCase others p found → IsCase (part n which keys fallback body others) p found
+-- a part of a switch: the number of its switch and its own, and its statements
+pub data IsCase : Code → ℕ → ℕ → Code → Type 0 where
+  this_case : {n which : ℕ} {keys : List ℤ} {fallback : Bool} {body others : Code} → IsCase (part n which keys fallback body others) n which body
+  other_case : {n which m p : ℕ} {keys : List ℤ} {fallback : Bool} {body others found : Code} → IsCase others m p found → IsCase (part n which keys fallback body others) m p found
 
--- A part of the statement that a list begins with, by its number, and its statements. An If has its first part and its second one, a Switch
--- its parts in order, a Loop its body and its continuing part.
-pub data HasPart : Code → ℕ → Code → Type 0 where
-  first_part : {n : ℕ} {cond : Operand} {one two rest : Code} → HasPart (branch n cond one two rest) 0 one
-  second_part : {n : ℕ} {cond : Operand} {one two rest : Code} → HasPart (branch n cond one two rest) 1 two
-  switch_part : {n p : ℕ} {selector : Operand} {parts rest found : Code} → IsCase parts p found → HasPart (switch n selector parts rest) p found
-  body_part : {n : ℕ} {body continuing : Code} {leave : Option Operand} {rest : Code} → HasPart (loop n body continuing leave rest) 0 body
-  continuing_part : {n : ℕ} {body continuing : Code} {leave : Option Operand} {rest : Code} → HasPart (loop n body continuing leave rest) 1 continuing
+-- A part of the statement that a list begins with: the number of the statement and its own, and its statements. An If has its first part and
+-- its second one, a Switch its parts in order, a Loop its body and its continuing part.
+pub data HasPart : Code → ℕ → ℕ → Code → Type 0 where
+  first_part : {n : ℕ} {cond : Operand} {one two rest : Code} → HasPart (branch n cond one two rest) n 0 one
+  second_part : {n : ℕ} {cond : Operand} {one two rest : Code} → HasPart (branch n cond one two rest) n 1 two
+  switch_part : {n m p : ℕ} {selector : Operand} {parts rest found : Code} → IsCase parts m p found → HasPart (switch n selector parts rest) m p found
+  body_part : {n : ℕ} {body continuing : Code} {leave : Option Operand} {rest : Code} → HasPart (loop n body continuing leave rest) n 0 body
+  continuing_part : {n : ℕ} {body continuing : Code} {leave : Option Operand} {rest : Code} → HasPart (loop n body continuing leave rest) n 1 continuing
 
 -- The analysed statements of a list that begins under a node: each by the rest of its own list from it on, and by the node from which
 -- control comes to it. A list is analysed up to and including its first statement behind which control does not go on to the next, and
@@ -51,4 +51,4 @@ pub data HasPart : Code → ℕ → Code → Type 0 where
 pub data Analysed : Node → Code → Node → Code → Type 0 where
   this : {a : Node} {c rest : Code} {n : ℕ} → Starts c n rest → Analysed a c a c
   behind : {a b : Node} {c rest found : Code} {n : ℕ} → Starts c n rest → (first_ways c).next ≡ true → Analysed (After n) rest b found → Analysed a c b found
-  within : {a b : Node} {c rest body found : Code} {n p : ℕ} → Starts c n rest → HasPart c p body → Analysed (Part n p) body b found → Analysed a c b found
+  within : {a b : Node} {c body found : Code} {n p : ℕ} → HasPart c n p body → Analysed (Part n p) body b found → Analysed a c b found

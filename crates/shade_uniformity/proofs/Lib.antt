@@ -1,0 +1,13 @@
+pub mod FewLaws
+pub mod VisitLaws
+pub mod WalkSteps
+pub mod FlatLaws
+pub mod SpanLaws
+pub mod CountLaws
+pub mod NodeTurns
+pub mod NodeListLaws
+pub mod DifferLaws
+pub mod RowLaws
+pub mod RowsBack
+pub mod AddLaws
+pub mod JoinLaws
