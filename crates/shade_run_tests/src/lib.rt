@@ -6,6 +6,8 @@ mod group;
 #[cfg(test)]
 mod lane;
 #[cfg(test)]
+mod lines;
+#[cfg(test)]
 mod mem;
 #[cfg(test)]
 mod race;

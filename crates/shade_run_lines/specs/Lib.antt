@@ -1,0 +1,3 @@
+-- Rules: Buffers, Races.
+pub mod Buffers
+pub mod Races
