@@ -89,6 +89,15 @@ const LITERALS: &[(&str, Want)] = &[
     ("*i", Want::Breaks(TypeRule::Indirection, 0)),
     ("&v.x", Want::Breaks(TypeRule::Indirection, 0)),
     ("&1", Want::Breaks(TypeRule::Indirection, 0)),
+    ("&u32", Want::Breaks(TypeRule::Conversion, 1)),
+    ("&workgroupBarrier()", Want::Breaks(TypeRule::Conversion, 1)),
+    ("(u32) + 1", Want::Breaks(TypeRule::Conversion, 1)),
+    (
+        "((workgroupBarrier()))",
+        Want::Breaks(TypeRule::Conversion, 2),
+    ),
+    ("(a)", Want::Breaks(TypeRule::Conversion, 0)),
+    ("&(a)", Want::Pointer),
 ];
 
 /// Operators on scalars, vectors, AbstractInt and what they do not take.
@@ -218,6 +227,10 @@ const PARTS: &[(&str, Want)] = &[
     ("v[-1]", Want::IndexOutside(1)),
     ("v[b]", Want::Breaks(TypeRule::Access, 0)),
     ("i[0]", Want::Breaks(TypeRule::Access, 0)),
+    ("u32[1 / 0]", Want::Breaks(TypeRule::Conversion, 0)),
+    ("(min)[1 / 0]", Want::Breaks(TypeRule::Conversion, 1)),
+    ("i[1 / 0]", Want::ZeroDivisor(4)),
+    ("r[1 / 0]", Want::ZeroDivisor(4)),
     ("r[i]", Want::Memory(UINT)),
     ("r[5]", Want::Memory(UINT)),
     ("vec2(5, 6)[1]", Want::One(A, 6)),
@@ -438,6 +451,38 @@ const TEMPLATES: &[(&str, Want)] = &[
     (
         "array<array<u32>, u>()",
         Want::Breaks(TypeRule::Template, 6),
+    ),
+    (
+        "array<array<u32>, 1 / 0>()",
+        Want::Breaks(TypeRule::Template, 6),
+    ),
+    (
+        "array<array<u32>, 2, 3>()",
+        Want::Breaks(TypeRule::Template, 6),
+    ),
+    (
+        "vec2<array<u32>, i32>(1)",
+        Want::Breaks(TypeRule::Template, 5),
+    ),
+    (
+        "array<storage, array<u32>>()",
+        Want::Breaks(TypeRule::Template, 15),
+    ),
+    (
+        "bitcast<ptr<private, array<u32>>>(1)",
+        Want::Breaks(TypeRule::Template, 21),
+    ),
+    (
+        "bitcast<ptr<storage, array<u32>>>(1)",
+        Want::Breaks(TypeRule::Overload, 0),
+    ),
+    (
+        "array<ptr<workgroup, u32, write>, 1 / 0>()",
+        Want::Breaks(TypeRule::Space, 6),
+    ),
+    (
+        "bitcast<ptr<storage, u32, write>>(1)",
+        Want::Breaks(TypeRule::Space, 8),
     ),
 ];
 

@@ -89,7 +89,37 @@ const ASSERTIONS: &[(&str, Want)] = &[
         Want::Accepted,
     ),
     ("true; alias A = array<u32>", Want::Accepted),
+    (
+        "true; alias A = ptr<storage, array<u32>, read>",
+        Want::Accepted,
+    ),
+    (
+        "true; alias A = ptr<workgroup, u32, write>",
+        Want::Breaks(TypeRule::Space, 16),
+    ),
+    (
+        "true; alias A = array<ptr<private, u32, read>, 2>",
+        Want::Breaks(TypeRule::Space, 22),
+    ),
+    (
+        "true; const c: ptr<function, i32, write> = 1 / 0",
+        Want::Breaks(TypeRule::Space, 15),
+    ),
+    ("true; fn f(p: ptr<workgroup, u32, write>) { }", Want::Left),
     ("true; override c: u32 = 1", Want::OutOfProfile(6)),
+    ("true; fn f() -> vec2<u32> { }", Want::Left),
+    (
+        "true; fn f() -> array<u32> { }",
+        Want::Breaks(TypeRule::Template, 16),
+    ),
+    (
+        "true; fn f() -> atomic<u32> { }",
+        Want::Breaks(TypeRule::Signature, 16),
+    ),
+    (
+        "true; fn f() -> ptr<private, u32> { }",
+        Want::Breaks(TypeRule::Signature, 16),
+    ),
 ];
 
 #[test]
