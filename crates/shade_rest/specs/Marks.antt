@@ -1,5 +1,5 @@
 -- Rules: what a lane has left, as a stack of marks.
-use Rattle.std.specs.Prelude.{◌≡◌, ℕ, Bool, true, false, List, [], ◌∷◌, reverse}
+use Rattle.std.specs.Prelude.{◌≡◌, ℕ, ◌+◌, Bool, true, false, List, [], ◌∷◌, reverse}
 use Rattle.std.specs.Option.{option_map}
 use Rattle.shade_core.specs.declared.statement.Argument.{Argument}
 use Rattle.shade_core.specs.declared.statement.CoreStatement.{CoreStatement}
@@ -30,6 +30,15 @@ left stack = rest_of (reverse stack)
 -- where a lane stands that has this left
 abbrev pub place : List Mark → Place
 place stack = next (left stack)
+
+-- how many things are open
+abbrev pub depth : Rest → ℕ
+depth halt = 0
+depth (seq c k) = depth k + 1
+depth (in_body m turn k) = depth k + 1
+depth (in_continuing m turn k) = depth k + 1
+depth (in_switch k) = depth k + 1
+depth (back n g args k) = depth k + 1
 
 -- ---- before a statement
 

@@ -7,4 +7,4 @@ mod mark;
 mod marks;
 
 pub use mark::{Here, Mark, OpenLoop};
-pub use marks::Marks;
+pub use marks::{Marks, marks_are_depth};

@@ -3,7 +3,7 @@
 ghost use Rattle.std.specs.Prelude.{◌≡◌, ◌+◌, ◌≤◌, length, true, IfOk, vec_capacity};
 ghost use Rattle.shade_core.specs.Code.{code_of};
 ghost use Rattle.shade_frames.specs.Control.{back, break_to, caller_of, continue_to, halt, in_body, in_switch, next, return_to, seq};
-ghost use Rattle.shade_rest.specs.Marks.{behind, has_first, left, loop_of, place, Stands, turn_of};
+ghost use Rattle.shade_rest.specs.Marks.{behind, depth, has_first, left, loop_of, place, Stands, turn_of};
 
 use crate::mark::{Here, Mark, OpenLoop};
 use shade_core::{Argument, CoreStatement};
@@ -148,7 +148,6 @@ impl<'m> Marks<'m> {
 
     /// Leaves the nearest loop or switch; a function that has none of its own stays. Takes no memory.
     pub fn leave(&mut self)
-        requires { length self.old.stack.items + 2 ≤ vec_capacity self.old.stack }
         ensures left { left self.new.stack.items ≡ break_to (left self.old.stack.items) }
         ensures room { vec_capacity self.new.stack ≡ vec_capacity self.old.stack }
     {
@@ -166,7 +165,6 @@ impl<'m> Marks<'m> {
 
     /// Goes to the continuing part of the nearest loop; a function that has none of its own stays. Takes no memory.
     pub fn skip(&mut self)
-        requires { length self.old.stack.items + 2 ≤ vec_capacity self.old.stack }
         ensures left { left self.new.stack.items ≡ continue_to (left self.old.stack.items) }
         ensures room { vec_capacity self.new.stack ≡ vec_capacity self.old.stack }
     {
@@ -214,3 +212,8 @@ impl<'m> Marks<'m> {
         }
     }
 }
+
+/// A stack is as long as what it leaves is deep: so what a call leaves tells for how many marks there is room behind it.
+pub fn marks_are_depth(marks: &Marks<'_>)
+    ensures { length marks.now.stack.items ≡ depth (left marks.now.stack.items) }
+{}
