@@ -1,0 +1,3 @@
+-- Rules: Flat, Rows.
+pub mod Flat
+pub mod Rows
